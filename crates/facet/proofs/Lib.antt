@@ -1,0 +1,4 @@
+pub mod Bytes
+pub mod Octets
+pub mod Paths
+pub mod Texts
