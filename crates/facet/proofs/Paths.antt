@@ -18,7 +18,7 @@ use Rattle.std.specs.Keys.{rank}
 use Rattle.std.specs.Orderings.{thenBy}
 use Rattle.std.specs.shelf.Text.{sameBytes}
 use Rattle.facet.specs.Laws.{Prefix, OnTheWay, NoWay}
-use Rattle.facet.specs.Pieces.{grow, split, join}
+use Rattle.facet.specs.Pieces.{grow, split, firstPiece, join}
 use Rattle.facet.specs.Paths.{steps, depth, firstStep, begins, above, atOrBelow, child, childOffset, order}
 
 -- ---- prefixes
@@ -285,11 +285,11 @@ way-leads (a ∷ p) f h z =
           (simp length-append (omega arith)),
     )
 
-pub length-first : (f : List ℕ) → length (firstStep f) ≤ length f
-length-first [] = omega arith
-length-first (b ∷ f) = cut (eqb b 0) (length-first f)
+pub length-piece : (sep : ℕ) (f : List ℕ) → length (firstPiece sep f) ≤ length f
+length-piece sep [] = omega arith
+length-piece sep (b ∷ f) = cut (eqb b sep) (length-piece sep f)
   where
-    cut : (t : Bool) → length (firstStep f) ≤ length f → length (cond t [] (b ∷ firstStep f)) ≤ length (b ∷ f)
+    cut : (t : Bool) → length (firstPiece sep f) ≤ length f → length (cond t [] (b ∷ firstPiece sep f)) ≤ length (b ∷ f)
     cut true h = omega arith
     cut false h = omega arith
 

@@ -1,10 +1,10 @@
 -- Facets as paths, by their encodings. Assumes nothing.
-use mathlib.Core.Bool.{Bool, true, false, cond, _&&_, _||_}
+use mathlib.Core.Bool.{Bool, true, false, _&&_, _||_}
 use mathlib.Core.List.{List, [], _∷_, _++_}
 use Prim.Native.Nat.{ℕ, suc}
 use lib.Dec.{eqb}
 use lib.ListN.{length}
-use Rattle.facet.specs.Pieces.{split}
+use Rattle.facet.specs.Pieces.{split, firstPiece}
 use Rattle.std.specs.declared.cmp.Ordering.{Ordering}
 use Rattle.std.specs.Keys.{unsigned}
 use Rattle.std.specs.Lexical.{lex}
@@ -20,8 +20,7 @@ depth f = length (steps f)
 
 -- the bytes before the first byte 00
 abbrev pub firstStep : List ℕ → List ℕ
-firstStep [] = []
-firstStep (b ∷ bs) = cond (eqb b 0) [] (b ∷ firstStep bs)
+firstStep f = firstPiece 0 f
 
 -- f begins with p
 abbrev pub begins : List ℕ → List ℕ → Bool

@@ -14,6 +14,11 @@ abbrev pub split : ℕ → List ℕ → List (List ℕ)
 split sep [] = [] ∷ []
 split sep (b ∷ bs) = cond (eqb b sep) ([] ∷ split sep bs) (grow b (split sep bs))
 
+-- the bytes before the first separator
+abbrev pub firstPiece : ℕ → List ℕ → List ℕ
+firstPiece sep [] = []
+firstPiece sep (b ∷ bs) = cond (eqb b sep) [] (b ∷ firstPiece sep bs)
+
 -- the pieces, with a separator between any two
 abbrev pub join : ℕ → List (List ℕ) → List ℕ
 join sep [] = []

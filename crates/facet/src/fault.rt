@@ -1,6 +1,7 @@
 // The refusals of a facet.
 ghost use mathlib.Core.Path.{_≡_};
-ghost use Rattle.facet.specs.Faults.{numberOf};
+ghost use Rattle.facet.specs.Faults.{numberOf, meaningOf};
+ghost use Rattle.std.specs.declared.option.Option.the-variants.{Some};
 use std::fmt;
 
 #[derive(Clone, Copy, Debug, PartialEq, Eq)]
@@ -24,18 +25,24 @@ impl FacetFault {
             FacetFault::BufferTooShort => 5,
         }
     }
+
+    pub fn meaning(&self) -> &'static str
+        ensures { λ r. ⌜ now r ≡ meaningOf (now (self .entry)) ⌝ }
+    {
+        match self {
+            FacetFault::TextTooLong => "the text has more than 255 bytes",
+            FacetFault::NotUtf8 => "the bytes are not UTF-8",
+            FacetFault::NoSlash => "the text does not begin with a slash",
+            FacetFault::TooLong => "the facet has more than 127 bytes",
+            FacetFault::BufferTooShort => "the buffer is too short for the text",
+        }
+    }
 }
 
 pub impl fmt::Display for FacetFault as FacetFaultDisplay {
+    ghost shown = { λ e. Some (meaningOf e) };
+
     fn fmt<W: fmt::Write>(&self, f: &mut fmt::Formatter<W>) -> fmt::Result {
-        f.write_str(
-            match self {
-                FacetFault::TextTooLong => "the text has more than 255 bytes",
-                FacetFault::NotUtf8 => "the bytes are not UTF-8",
-                FacetFault::NoSlash => "the text does not begin with a slash",
-                FacetFault::TooLong => "the facet has more than 127 bytes",
-                FacetFault::BufferTooShort => "the buffer is too short for the text",
-            },
-        )
+        f.write_str(self.meaning())
     }
 }

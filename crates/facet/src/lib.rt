@@ -1,6 +1,7 @@
 // Facets: paths such as /dough/rye/light, of at most 127 bytes of UTF-8.
 mod encoded;
 mod fault;
+mod pieces;
 
 pub use encoded::Facet;
 pub use encoded::order::FacetEq;
@@ -11,3 +12,4 @@ pub use encoded::path::step_end;
 pub use encoded::print::FacetDisplay;
 pub use fault::FacetFault;
 pub use fault::FacetFaultDisplay;
+pub use pieces::piece_len;

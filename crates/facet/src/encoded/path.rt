@@ -4,22 +4,19 @@ ghost use Prim.Native.Nat.{ℕ, _≤_};
 ghost use lib.ListN.{length};
 ghost use Rattle.facet.specs.Facets.{encodedOf};
 ghost use Rattle.facet.specs.Laws.{Prefix, OnTheWay, NoWay};
-ghost use Rattle.facet.specs.Paths.{steps, depth as steps-of, firstStep, childOffset};
+ghost use Rattle.facet.specs.Paths.{steps, depth as steps-of, firstStep, childOffset, atOrBelow};
 ghost use Rattle.facet.specs.Pieces.{join};
 ghost use Rattle.std.specs.Options.{Cases};
 use super::Facet;
 use super::SEPARATOR;
+use super::order::FacetEq;
+use crate::pieces::piece_len;
 
 // How many bytes the first step of a part of a facet has.
 pub fn step_end(part: &[u8]) -> usize
     ensures { λ r. ⌜ r ≡ length (firstStep (now (part .entry))) ⌝ }
 {
-    for (i, b) in part.iter().enumerate() {
-        if *b == SEPARATOR {
-            return i;
-        }
-    }
-    part.len()
+    piece_len(part, SEPARATOR)
 }
 
 impl Facet {
@@ -55,6 +52,13 @@ impl Facet {
             return true;
         }
         below.starts_with(encoded) && below[encoded.len()] == SEPARATOR
+    }
+
+    // Whether this facet is the branch, or below it.
+    pub fn is_at_or_below(&self, branch: &Facet) -> bool
+        ensures { λ r. ⌜ r ≡ atOrBelow (encodedOf (now (self .entry))) (encodedOf (now (branch .entry))) ⌝ }
+    {
+        *self == *branch || branch.is_prefix_of(self)
     }
 
     // Where in a facet below this one the step of the child begins.

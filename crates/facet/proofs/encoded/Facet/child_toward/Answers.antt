@@ -10,7 +10,7 @@ use Rattle.utf8.specs.Octets.{utf8}
 use Rattle.facet.specs.Laws.{OnTheWay, NoWay}
 use Rattle.facet.specs.Paths.{firstStep, above, childOffset}
 use Rattle.facet.proofs.Octets.{utf8-way}
-use Rattle.facet.proofs.Paths.{way, way-front, length-first, no-way-apart, no-way-empty, on-the-way}
+use Rattle.facet.proofs.Paths.{way, way-front, length-piece, no-way-apart, no-way-empty, on-the-way}
 use Rattle.facet.proofs.encoded.Facet.child_toward.Needs as need
 
 -- p above f, with the slice xs of f, the child's offset s in it and the length n of its step
@@ -21,7 +21,7 @@ module _ (p f xs : List ℕ) (s n : ℕ) (h : above p f ≡ true) (e : xs ≡ f)
   module _ (m : n ≡ length (firstStep (take (length xs - s) (drop s xs)))) where
     ends : s + n ≤ length xs
     ends =
-        let l = length-first (drop s xs) in
+        let l = length-piece 0 (drop s xs) in
         let k = m ∙ ap (λ (y : List ℕ). length (firstStep y)) (take-rest xs s) in
         let d = length-drop s xs in
         let q = starts in
