@@ -8,7 +8,7 @@ ghost use Rattle.recipes.specs.Lines.{behind, room, bare as bareOf};
 use facet::piece_len;
 
 // The bytes before the first separator, and those behind it where there is one.
-pub fn cut(bytes: &[u8], separator: u8) -> (&[u8], Option<&[u8]>)
+pub(crate) fn cut(bytes: &[u8], separator: u8) -> (&[u8], Option<&[u8]>)
     ensures pieces { λ r. ⌜ split separator (now (bytes .entry)) ≡ now (r .0) ∷ behind separator (r .1) ⌝ }
     ensures less { λ r. ⌜ room (r .1) ≤ length (now (bytes .entry)) ⌝ }
 {
@@ -20,7 +20,7 @@ pub fn cut(bytes: &[u8], separator: u8) -> (&[u8], Option<&[u8]>)
 }
 
 // A line without the carriage return that may end it.
-pub fn bare(line: &[u8]) -> &[u8]
+pub(crate) fn bare(line: &[u8]) -> &[u8]
     ensures { λ r. ⌜ now r ≡ bareOf (now (line .entry)) ⌝ }
 {
     match line {

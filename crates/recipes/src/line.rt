@@ -12,7 +12,11 @@ use std::alloc::Global;
 const TAB: u8 = b'\t';
 
 // The recipe of a line: its name, and then its facets, with tabs between.
-pub fn read_line<'a>(heap: Global, number: usize, line: &'a [u8]) -> Result<Recipe, ListFault<'a>>
+pub(crate) fn read_line<'a>(
+    heap: Global,
+    number: usize,
+    line: &'a [u8],
+) -> Result<Recipe, ListFault<'a>>
     ensures { λ r. ⌜ Answers toldOf (recipeOf number (now (line .entry))) r ⌝ }
 {
     let (name, mut left) = cut(line, TAB);

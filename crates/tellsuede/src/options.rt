@@ -1,4 +1,8 @@
 // The words of the command line.
+ghost use mathlib.Core.Path.{_≡_};
+ghost use Prim.Native.Nat.{_+_, _<_};
+ghost use Rattle.std.specs.Of.Vec.{vec-len};
+ghost use Rattle.std.specs.Vec.{made};
 use facet::Facet;
 use facet::FacetFault;
 use facet::FacetFaultDisplay;
@@ -67,7 +71,9 @@ enum Wanted {
 
 impl Options {
     // The options that the words give, of which the first is the program's name.
-    pub fn read(heap: Global, words: Args) -> Result<Options, UsageFault> {
+    pub fn read(heap: Global, words: Args) -> Result<Options, UsageFault>
+        ensures { λ r. ⌜ made r (λ o. (0 < vec-len (o .branches)) × (0 < vec-len (o .files))) ⌝ }
+    {
         let mut options = Options {
             files: Vec::new(heap),
             branches: Vec::new(heap),
@@ -107,7 +113,9 @@ impl Options {
         }
     }
 
-    fn take_branch(&mut self, word: String) -> Result<Wanted, UsageFault> {
+    fn take_branch(&mut self, word: String) -> Result<Wanted, UsageFault>
+        ensures { λ r. ⌜ made r (λ _. vec-len (now (self .exit) .branches) ≡ vec-len (now (self .entry) .branches) + 1) ⌝ ∗ ⌜ now (self .exit) .files ≡ now (self .entry) .files ⌝ }
+    {
         match Facet::from_text(word.as_bytes()) {
             Ok(branch) => {
                 self.branches.push(branch)?;
@@ -117,7 +125,9 @@ impl Options {
         }
     }
 
-    fn take_minimum(&mut self, word: String) -> Result<Wanted, UsageFault> {
+    fn take_minimum(&mut self, word: String) -> Result<Wanted, UsageFault>
+        ensures { λ _. ⌜ now (self .exit) .branches ≡ now (self .entry) .branches ⌝ ∗ ⌜ now (self .exit) .files ≡ now (self .entry) .files ⌝ }
+    {
         match word.as_str().parse::<u64>() {
             Ok(min) => {
                 self.min = Some(min);
@@ -128,7 +138,9 @@ impl Options {
     }
 
     // The root where no branch is named, and standard input where no file is.
-    fn filled(self, heap: Global) -> Result<Options, UsageFault> {
+    fn filled(self, heap: Global) -> Result<Options, UsageFault>
+        ensures { λ r. ⌜ made r (λ o. (0 < vec-len (o .branches)) × (0 < vec-len (o .files))) ⌝ }
+    {
         let mut options = self;
         if options.branches.is_empty() {
             options.branches.push(Facet::root())?;

@@ -1,0 +1,4 @@
+pub mod Rising
+pub mod Checks
+pub mod Walks
+pub mod Blocks

@@ -1,0 +1,5 @@
+pub mod Pairs
+pub mod Faults
+pub mod Checks
+pub mod Rises
+pub mod Walks

@@ -1,0 +1,9 @@
+pub mod Items
+pub mod Columns
+pub mod Held
+pub mod Fields
+pub mod Segments
+pub mod SegmentFaults
+pub mod Made
+pub mod Laws
+pub mod Faults
