@@ -3,18 +3,16 @@ use mathlib.Core.Path.{_≡_, refl, sym, ap, subst, _∙_}
 use mathlib.Core.Bool.{Bool, true, false, cond, _||_}
 use mathlib.Core.List.{List, [], _∷_, _++_}
 use mathlib.Core.Logic.{_⊎_, ⊎-elim}
-use Prim.Native.Nat.{ℕ, suc, _+_, _-_, _*_, _<_, _≤_}
+use Prim.Native.Nat.{ℕ, _+_, _-_, _<_, _≤_}
 use native.Mathlib.Omega.{arith}
-use lib.Dec.{eqb, ltb}
+use lib.Dec.{eqb}
 use lib.ListN.{length, take, drop}
 use Rattle.std.proofs.shelf.Lists.{take-at}
 use Rattle.std.proofs.shelf.Tests.{eqb-true, or-cases, cases-lt, le-ltb}
 use Rattle.std.specs.Joined.{joined}
-use Rattle.std.specs.declared.result.Result.{Result}
 use Rattle.std.specs.declared.result.Result.the-variants.{Ok, Err}
 use Rattle.utf8.specs.Octets.{Span, octets, utf8}
 use Rattle.utf8.proofs.Laws.{High, ascii-step, beyond-step, low-ends}
-use Rattle.facet.specs.declared.fault.FacetFault.{FacetFault}
 use Rattle.facet.specs.declared.fault.FacetFault.the-variants.{TextTooLong, NotUtf8, TooLong}
 use Rattle.facet.specs.Reading.{read, slashed, limited}
 use Rattle.facet.specs.Text.{unescaped, printed, shown}

@@ -1,15 +1,15 @@
 -- Facets as paths: what "above" and "child" say of bytes, and the laws that follow. Assumes nothing.
 use mathlib.Core.Path.{_≡_, refl, sym, ap, subst, _∙_}
-use mathlib.Core.Bool.{Bool, true, false, cond, _&&_, _||_}
-use mathlib.Core.List.{List, [], _∷_, _++_, append-assoc, append-nil}
+use mathlib.Core.Bool.{Bool, true, false, cond, _&&_}
+use mathlib.Core.List.{List, [], _∷_, _++_, append-assoc}
 use mathlib.Core.Logic.{_⊎_, inl, inr, ⊎-elim}
-use Prim.Native.Nat.{ℕ, zero, suc, _+_, _-_, _<_, _≤_}
+use Prim.Native.Nat.{ℕ, suc, _+_, _<_, _≤_}
 use native.Mathlib.Nat.{suc-add, zero-add}
 use native.Mathlib.Omega.{arith}
-use lib.Dec.{eqb, ltb}
+use lib.Dec.{eqb}
 use lib.ListN.{length, getD, take, drop, length-append}
 use Rattle.std.proofs.shelf.Lists.{drop-more}
-use Rattle.std.proofs.shelf.Tests.{eqb-true, eq-eqb, ne-eqb, cases-eq, cases-lt, cases-order, and-parts, and-from, or-cases, or-left, or-right, both-ways}
+use Rattle.std.proofs.shelf.Tests.{eqb-true, eq-eqb, cases-lt, cases-order, and-parts, and-from, or-cases, or-left, or-right, both-ways}
 use Rattle.std.proofs.shelf.Equals.{sameBytes-decides}
 use Rattle.std.proofs.shelf.Ways.{tells}
 use Rattle.std.specs.declared.cmp.Ordering.{Ordering}
@@ -167,11 +167,21 @@ length-grow : (b : ℕ) (ps : List (List ℕ)) → 0 < length ps → length (gro
 length-grow b [] h = absurd (omega arith)
 length-grow b (p ∷ ps) h = refl
 
+-- there is a piece at least
+pub split-some : (sep : ℕ) (xs : List ℕ) → 0 < length (split sep xs)
+split-some sep [] = omega arith
+split-some sep (b ∷ xs) = cut (eqb b sep) (split sep xs) (split-some sep xs)
+  where
+    cut : (t : Bool) (ps : List (List ℕ)) → 0 < length ps → 0 < length (cond t ([] ∷ ps) (grow b ps))
+    cut true ps h = omega arith
+    cut false [] h = omega arith
+    cut false (p ∷ ps) h = omega arith
+
 pub length-split : (f : List ℕ) → length (split 0 f) ≡ suc (zeros f)
 length-split [] = refl
 length-split (b ∷ bs) =
     let h = length-split bs in
-    let g = length-grow b (split 0 bs) (omega arith) in
+    let g = length-grow b (split 0 bs) (split-some 0 bs) in
     cut (eqb b 0) h (g ∙ h)
   where
     cut : (t : Bool) → length (split 0 bs) ≡ suc (zeros bs) → length (grow b (split 0 bs)) ≡ suc (zeros bs) → length (cond t ([] ∷ split 0 bs) (grow b (split 0 bs))) ≡ suc (cond t 1 0 + zeros bs)
@@ -349,7 +359,7 @@ join-apart (p ∷ ps) h = refl
 
 join-split : (f : List ℕ) → join 0 (split 0 f) ≡ f
 join-split [] = refl
-join-split (b ∷ f) = cut (eqb b 0) refl (let h = length-split f in omega arith) (join-split f)
+join-split (b ∷ f) = cut (eqb b 0) refl (split-some 0 f) (join-split f)
   where
     cut : (t : Bool) → eqb b 0 ≡ t → 0 < length (split 0 f) → join 0 (split 0 f) ≡ f → join 0 (cond t ([] ∷ split 0 f) (grow b (split 0 f))) ≡ b ∷ f
     cut true e h q = join-apart (split 0 f) h ∙ (λ i. sym (eqb-true b 0 e) i ∷ q i)

@@ -1,19 +1,17 @@
 -- The text of a facet, byte by byte. Assumes nothing.
-use mathlib.Core.Path.{_≡_, refl, sym, ap, subst, _∙_}
+use mathlib.Core.Path.{_≡_, refl, sym, ap, _∙_}
 use mathlib.Core.Bool.{Bool, true, false, cond, _||_}
-use mathlib.Core.List.{List, [], _∷_, _++_, append-assoc, append-nil}
-use Prim.Native.Nat.{ℕ, suc, _+_, _*_, _<_, _≤_}
+use mathlib.Core.List.{List, [], _∷_, _++_, append-assoc}
+use Prim.Native.Nat.{ℕ, _+_, _*_, _<_, _≤_}
 use native.Mathlib.Omega.{arith}
 use lib.Dec.{eqb}
 use lib.ListN.{length, getD, take, drop, length-append}
 use Rattle.std.proofs.shelf.Lists.{take-more, take-append-drop, joined-more as joined-one}
-use Rattle.std.proofs.shelf.Tests.{eqb-true, eqb-false, eq-eqb, ne-eqb}
-use Rattle.std.proofs.shelf.Ways.{tells}
+use Rattle.std.proofs.shelf.Tests.{eqb-true, eq-eqb, ne-eqb}
 use Rattle.std.specs.Joined.{joined}
 use Rattle.facet.specs.Pieces.{grow, split}
-use Rattle.facet.specs.Paths.{steps}
 use Rattle.facet.specs.Text.{unescaped, escaped, printed, shown}
-use Rattle.facet.proofs.Paths.{length-split}
+use Rattle.facet.proofs.Paths.{split-some}
 
 -- ---- printing
 
@@ -37,7 +35,7 @@ of-split (b ∷ f) = cut (eqb b 0) refl (of-split f)
   where
     cut : (t : Bool) → eqb b 0 ≡ t → of-steps (split 0 f) ≡ 47 ∷ joined shown f → of-steps (cond t ([] ∷ split 0 f) (grow b (split 0 f))) ≡ 47 ∷ (shown b ++ joined shown f)
     cut true e h = ap (λ (l : List ℕ). 47 ∷ l) (h ∙ sym (ap (λ (t : Bool). cond t (47 ∷ []) (cond (eqb b 47 || eqb b 92) (92 ∷ b ∷ []) (b ∷ [])) ++ joined shown f) e))
-    cut false e h = of-grown b (split 0 f) (joined shown f) e (let k = length-split f in omega arith) h
+    cut false e h = of-grown b (split 0 f) (joined shown f) e (split-some 0 f) h
 
 -- the text is a slash and then that of each byte
 pub printed-is : (f : List ℕ) → printed f ≡ 47 ∷ joined shown f

@@ -1,25 +1,17 @@
 -- Lists of bytes cut at a separator, and lines without their ends. Assumes nothing.
-use mathlib.Core.Path.{_≡_, refl, sym, ap, _∙_}
+use mathlib.Core.Path.{_≡_, refl, sym, ap}
 use mathlib.Core.Bool.{Bool, true, false, cond}
 use mathlib.Core.List.{List, [], _∷_}
 use Prim.Native.Nat.{ℕ, zero, suc, _<_}
 use native.Mathlib.Omega.{arith}
 use lib.Dec.{eqb}
 use lib.ListN.{length, getD, take, drop}
+use Rattle.facet.proofs.Paths.{split-some}
 use Rattle.facet.specs.Pieces.{split, grow, firstPiece}
 use Rattle.std.proofs.shelf.Tests.{eq-eqb, ne-eqb}
 use Rattle.recipes.specs.Lines.{bare}
 
 module _ (s : ℕ) where
-  split-some : (xs : List ℕ) → 0 < length (split s xs)
-  split-some [] = omega arith
-  split-some (b ∷ xs) = cut (eqb b s) (split s xs) (split-some xs)
-    where
-      cut : (t : Bool) (ps : List (List ℕ)) → 0 < length ps → 0 < length (cond t ([] ∷ ps) (grow b ps))
-      cut true ps h = omega arith
-      cut false [] h = omega arith
-      cut false (p ∷ ps) h = omega arith
-
   -- without a separator there is one piece
   pub split-whole : (xs : List ℕ) → length (firstPiece s xs) ≡ length xs → split s xs ≡ xs ∷ []
   split-whole [] h = refl
@@ -43,7 +35,7 @@ module _ (s : ℕ) where
   -- the first piece is that of the split
   pub first-of-split : (xs : List ℕ) (d : List ℕ) → firstPiece s xs ≡ getD (split s xs) 0 d
   first-of-split [] d = refl
-  first-of-split (b ∷ xs) d = cut (eqb b s) (split s xs) (first-of-split xs d) (split-some xs)
+  first-of-split (b ∷ xs) d = cut (eqb b s) (split s xs) (first-of-split xs d) (split-some s xs)
     where
       cut : (t : Bool) (ps : List (List ℕ)) → firstPiece s xs ≡ getD ps 0 d → 0 < length ps → cond t [] (b ∷ firstPiece s xs) ≡ getD (cond t ([] ∷ ps) (grow b ps)) 0 d
       cut true ps h l = refl

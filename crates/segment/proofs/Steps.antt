@@ -6,6 +6,7 @@ use Prim.Native.Nat.{ℕ, _+_, _<_}
 use native.Mathlib.Omega.{arith}
 use lib.Dec.{eqb, ltb}
 use lib.ListN.{length, getD, drop}
+use Rattle.facet.proofs.Paths.{split-some}
 use Rattle.facet.specs.Paths.{steps}
 use Rattle.facet.specs.Pieces.{grow, split}
 use Rattle.std.proofs.shelf.Lists.{at-drop-more}
@@ -36,27 +37,18 @@ with-none : (ss : List (List ℕ)) → 0 < length ss → fullWith false ss ≡ f
 with-none [] h = absurd (omega arith)
 with-none (s ∷ ss) h = refl
 
-split-some : (xs : List ℕ) → 0 < length (split 0 xs)
-split-some [] = omega arith
-split-some (b ∷ xs) = cut (eqb b 0) (split 0 xs) (split-some xs)
-  where
-    cut : (t : Bool) (ps : List (List ℕ)) → 0 < length ps → 0 < length (cond t ([] ∷ ps) (grow b ps))
-    cut true ps h = omega arith
-    cut false [] h = omega arith
-    cut false (p ∷ ps) h = omega arith
-
 full-with : (n : Bool) (xs : List ℕ) → fullWith n (split 0 xs) ≡ fullFrom n xs
 full-with true [] = refl
 full-with false [] = refl
 full-with n (b ∷ xs) = cut (eqb b 0) (full-with false xs) (full-with true xs)
   where
     cut : (t : Bool) → fullWith false (split 0 xs) ≡ fullFrom false xs → fullWith true (split 0 xs) ≡ fullFrom true xs → fullWith n (cond t ([] ∷ split 0 xs) (grow b (split 0 xs))) ≡ cond t (n && fullFrom false xs) (fullFrom true xs)
-    cut true f g = with-first n (split 0 xs) ∙ ap (λ (u : Bool). n && u) (sym (with-none (split 0 xs) (split-some xs)) ∙ f)
+    cut true f g = with-first n (split 0 xs) ∙ ap (λ (u : Bool). n && u) (sym (with-none (split 0 xs) (split-some 0 xs)) ∙ f)
     cut false f g = with-grown n b (split 0 xs) ∙ g
 
 pub full-steps : (xs : List ℕ) → (length xs ≡ 0 → ⊥) → full (steps xs) ≡ fullFrom false xs
 full-steps [] n = absurd (n refl)
-full-steps (b ∷ xs) n = sym (with-none (split 0 (b ∷ xs)) (split-some (b ∷ xs))) ∙ full-with false (b ∷ xs)
+full-steps (b ∷ xs) n = sym (with-none (split 0 (b ∷ xs)) (split-some 0 (b ∷ xs))) ∙ full-with false (b ∷ xs)
 
 -- what the byte at i says
 pub at-byte : (xs : List ℕ) (i : ℕ) (begun t : Bool) → i < length xs → eqb (getD xs i 0) 0 ≡ t → fullFrom begun (drop i xs) ≡ cond t (begun && fullFrom false (drop (i + 1) xs)) (fullFrom true (drop (i + 1) xs))

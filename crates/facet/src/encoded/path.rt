@@ -1,6 +1,5 @@
 // Facets as paths.
 ghost use mathlib.Core.Path.{_≡_};
-ghost use Prim.Native.Nat.{ℕ, _≤_};
 ghost use lib.ListN.{length};
 ghost use Rattle.facet.specs.Facets.{encodedOf};
 ghost use Rattle.facet.specs.Laws.{Prefix, OnTheWay, NoWay};

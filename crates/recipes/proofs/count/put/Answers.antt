@@ -1,6 +1,6 @@
-use mathlib.Core.Path.{_≡_, refl, sym, ap, subst, _∙_}
+use mathlib.Core.Path.{_≡_, sym, ap, _∙_}
 use mathlib.Core.List.{List, [], _∷_, _++_, map}
-use Prim.Native.Nat.{ℕ, _+_, _<_, _≤_}
+use Prim.Native.Nat.{ℕ, _+_, _<_}
 use native.Mathlib.Omega.{arith}
 use lib.ListN.{length, getD, take, drop}
 use Rattle.facet.specs.declared.encoded.Facet.{Facet}
@@ -9,7 +9,6 @@ use Rattle.facet.specs.Paths.{order}
 use Rattle.std.proofs.shelf.Lists.{getD-map, length-map, map-append, take-map, drop-map}
 use Rattle.std.specs.Holes.{inserted}
 use Rattle.std.specs.declared.cmp.Ordering.{Ordering}
-use Rattle.recipes.specs.Counting.{put}
 use Rattle.recipes.proofs.Counts.{put-behind, put-same, put-here, put-last}
 use Rattle.recipes.proofs.count.put.Needs as need
 use Rattle.recipes.proofs.count.put.Needs.{else-loop-i-test, then-loop-i-test·in-Greater}

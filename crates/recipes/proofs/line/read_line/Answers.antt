@@ -1,18 +1,16 @@
-use mathlib.Core.Path.{_≡_, refl, sym, ap, _∙_}
+use mathlib.Core.Path.{_≡_, sym, ap, _∙_}
 use mathlib.Core.List.{List, [], _∷_, _++_, map}
 use Prim.Native.Nat.{ℕ, suc, _+_}
 use native.Mathlib.Numerals.{add-one}
 use lib.ListN.{getD, drop}
 use Rattle.facet.specs.declared.encoded.Facet.{Facet}
-use Rattle.facet.specs.declared.fault.FacetFault.{FacetFault}
 use Rattle.facet.specs.Facets.{encodedOf}
 use Rattle.facet.specs.Pieces.{split}
 use Rattle.facet.specs.Reading.{read}
 use Rattle.std.proofs.shelf.Lists.{map-push}
 use Rattle.std.specs.Of.Vec.{vec-items, vec-len}
-use Rattle.std.specs.declared.result.Result.{Result}
-use Rattle.std.specs.declared.result.Result.the-variants.{Ok, Err}
-use Rattle.recipes.specs.Lines.{Refusal, first, placed, facetsFrom, recipeOf, named, behind}
+use Rattle.std.specs.declared.result.Result.the-variants.{Ok}
+use Rattle.recipes.specs.Lines.{first, placed, facetsFrom, recipeOf, named, behind}
 use Rattle.recipes.proofs.Cuts.{first-of-split}
 use Rattle.recipes.proofs.Lists.{ahead, ahead-first, ahead-all}
 use Rattle.recipes.proofs.line.read_line.Needs as need

@@ -1,4 +1,4 @@
-use mathlib.Core.Path.{_≡_, sym, _∙_}
+use mathlib.Core.Path.{sym, _∙_}
 use mathlib.Core.Bool.{true, false}
 use Rattle.segment.proofs.Firsts.{at-place, past-all}
 use Rattle.segment.proofs.first.first_failing.Needs as need

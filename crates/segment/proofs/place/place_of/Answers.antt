@@ -1,7 +1,7 @@
-use mathlib.Core.Path.{_≡_, refl, sym, ap, subst, _∙_}
+use mathlib.Core.Path.{_≡_, refl, sym, ap, _∙_}
 use mathlib.Core.Bool.{Bool, true, false, not}
-use mathlib.Core.List.{List, [], _∷_, _++_}
-use Prim.Native.Nat.{ℕ, zero, suc, _+_, _<_, _≤_}
+use mathlib.Core.List.{List, [], _∷_}
+use Prim.Native.Nat.{ℕ, zero, suc, _<_}
 use native.Mathlib.Nat.{le-of-suc-le-suc}
 use native.Mathlib.Omega.{arith}
 use lib.ListN.{length, getD, take}
@@ -11,7 +11,7 @@ use Rattle.std.proofs.shelf.Lists.{take-more-same}
 use Rattle.std.specs.shelf.Text.{sameBytes}
 use Rattle.segment.specs.declared.field.Field.{Field}
 use Rattle.segment.specs.Fields.{nameAt}
-use Rattle.segment.proofs.Firsts.{at-place, past-all}
+use Rattle.segment.proofs.Firsts.{at-place}
 use Rattle.segment.proofs.place.place_of.Needs as need
 use Rattle.segment.proofs.place.place_of.Needs.{then-field-name·else-k-name·then-field-k, else-field-name}
 

@@ -1,6 +1,6 @@
 use mathlib.Core.Path.{_≡_, sym, ap, _∙_}
 use mathlib.Core.List.{List}
-use Prim.Native.Nat.{ℕ, _+_, _<_, _≤_}
+use Prim.Native.Nat.{ℕ, _+_, _<_}
 use native.Mathlib.Numerals.{add-one}
 use native.Mathlib.Omega.{arith}
 use borrow.Author.Needs.{needs}
@@ -11,7 +11,7 @@ use Rattle.std.specs.declared.option.Option.the-variants.{Some}
 use Rattle.segment.specs.Columns.{after, fallsFrom}
 use Rattle.segment.specs.Items.{startOf, endOf, items}
 use Rattle.segment.proofs.Firsts.{within-all}
-use Rattle.segment.proofs.Spans.{length-items, item-at, row-ends, falls-at}
+use Rattle.segment.proofs.Spans.{length-items, row-ends, falls-at}
 use Rattle.segment.proofs.rows.fall.Needs as need
 
 at-row : (ends ordinals : List ℕ) (i : ℕ) → i < length ends → i < length (items ends ordinals)

@@ -1,14 +1,13 @@
-use mathlib.Core.Path.{_≡_, ap, subst, sym, _∙_}
-use mathlib.Core.Bool.{Bool, true, false, cond}
-use mathlib.Core.List.{List, [], _∷_, _++_}
-use Prim.Native.Nat.{ℕ, suc, _+_, _<_, _≤_}
+use mathlib.Core.Path.{_≡_, ap, sym, _∙_}
+use mathlib.Core.Bool.{Bool, cond}
+use mathlib.Core.List.{List, [], _∷_}
+use Prim.Native.Nat.{ℕ, suc, _+_, _<_}
 use native.Mathlib.Omega.{arith}
 use lib.Dec.{eqb}
 use lib.ListN.{length, getD, take}
 use Rattle.std.proofs.shelf.Lists.{take-more, take-all}
 use Rattle.std.proofs.shelf.Tests.{eq-eqb, ne-eqb, eqb-false}
 use Rattle.facet.specs.Facets.{encodedOf}
-use Rattle.facet.specs.Paths.{depth as steps-of}
 use Rattle.facet.proofs.Paths.{zeros, zeros-append, depth-is, steps-join}
 use Rattle.facet.proofs.encoded.Facet.depth.Needs as need
 use Rattle.facet.proofs.encoded.Facet.depth.Needs.{then-b-eq-SEPARATOR, else-b-eq-SEPARATOR}

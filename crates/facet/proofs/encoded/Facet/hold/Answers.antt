@@ -1,9 +1,8 @@
-use mathlib.Core.Path.{_≡_, refl, ap, sym, subst, _∙_}
-use mathlib.Core.Bool.{true}
+use mathlib.Core.Path.{_≡_, ap, _∙_}
 use mathlib.Core.List.{List, _++_}
 use Prim.Native.Nat.{ℕ, _-_}
 use native.Mathlib.Omega.{arith}
-use lib.ListN.{length, take, drop, replicate}
+use lib.ListN.{length, drop, replicate}
 use Rattle.utf8.specs.Octets.{utf8}
 use Rattle.facet.proofs.Bytes.{padded-length, padded-zeros, padded-front}
 use Rattle.facet.proofs.encoded.Facet.hold.Needs as need

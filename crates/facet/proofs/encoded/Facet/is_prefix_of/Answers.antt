@@ -1,13 +1,10 @@
-use mathlib.Core.Path.{_≡_, refl, ap, sym, subst, _∙_}
-use mathlib.Core.Bool.{Bool, true, false}
+use mathlib.Core.Path.{_≡_, refl, ap, sym, _∙_}
+use mathlib.Core.Bool.{Bool, false}
 use mathlib.Core.List.{List}
-use Prim.Native.Nat.{ℕ, _<_}
-use native.Mathlib.Omega.{arith}
-use lib.Dec.{eqb}
-use lib.ListN.{length, getD}
+use Prim.Native.Nat.{ℕ}
+use lib.ListN.{length}
 use Rattle.std.proofs.shelf.Equals.{starts-is}
 use Rattle.std.proofs.shelf.Tests.{eqb-true, eqb-false, both-ways}
-use Rattle.facet.specs.Facets.{encodedOf}
 use Rattle.facet.specs.Laws.{Prefix}
 use Rattle.facet.specs.Paths.{above}
 use Rattle.facet.proofs.Paths.{prefix, not-above-shorter, root-above, above-begun, not-above-other}

@@ -1,11 +1,11 @@
-use mathlib.Core.Path.{_≡_, refl, sym, ap, _∙_}
+use mathlib.Core.Path.{_≡_, sym, ap, _∙_}
 use mathlib.Core.Bool.{true, false}
 use mathlib.Core.List.{List, [], _∷_, _++_}
 use Prim.Native.Nat.{ℕ, suc, _+_, _<_, _≤_}
 use native.Mathlib.Numerals.{add-one}
 use native.Mathlib.Omega.{arith}
 use lib.ListN.{length, take, drop, set, length-set}
-use Rattle.std.proofs.shelf.Lists.{set-split, take-set-le, drop-set-lt, take-more-set, append-assoc}
+use Rattle.std.proofs.shelf.Lists.{set-split, drop-set-lt, take-more-set, append-assoc}
 use Rattle.facet.specs.Text.{shown}
 use Rattle.facet.proofs.Texts.{shown-separator, shown-step}
 use Rattle.facet.proofs.encoded.print.put.Needs as need

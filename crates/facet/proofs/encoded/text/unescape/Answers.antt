@@ -1,5 +1,5 @@
-use mathlib.Core.Path.{_≡_, refl, sym, ap, subst, _∙_}
-use mathlib.Core.Bool.{Bool, false, cond}
+use mathlib.Core.Path.{_≡_, refl, sym, ap, _∙_}
+use mathlib.Core.Bool.{Bool, cond}
 use mathlib.Core.List.{List, [], _∷_, _++_}
 use Prim.Native.Nat.{ℕ, _+_, _<_, _≤_}
 use native.Mathlib.Omega.{arith}
@@ -10,7 +10,6 @@ use Rattle.std.specs.declared.result.Result.the-variants.{Ok, Err}
 use Rattle.utf8.specs.Octets.{utf8}
 use Rattle.facet.specs.declared.fault.FacetFault.the-variants.{TooLong}
 use Rattle.facet.specs.Reading.{limited}
-use Rattle.facet.specs.Text.{unescaped}
 use Rattle.facet.proofs.Bytes.{zero-filled}
 use Rattle.facet.proofs.Octets.{utf8-unescaped}
 use Rattle.facet.proofs.encoded.text.unescape.Needs as need

@@ -1,14 +1,11 @@
-use mathlib.Core.Path.{_≡_, sym, ap, _∙_}
+use mathlib.Core.Path.{_≡_, ap, _∙_}
 use Prim.Native.Nat.{ℕ}
-use mathlib.Core.List.{List, []}
+use mathlib.Core.List.{List}
 use native.Mathlib.Omega.{arith}
-use lib.ListN.{getD}
-use Rattle.facet.specs.Facets.{encodedOf}
 use Rattle.facet.specs.Reading.{decoded}
 use Rattle.facet.specs.declared.fault.FacetFault.{FacetFault}
 use Rattle.std.specs.declared.result.Result.{Result}
 use Rattle.std.specs.declared.result.Result.the-variants.{Ok, Err}
-use Rattle.segment.specs.Held.{termsOf}
 use Rattle.segment.proofs.Sounds.{term-decodes}
 use Rattle.segment.proofs.column.Column.facet.Needs as need
 

@@ -1,5 +1,5 @@
-use mathlib.Core.Path.{_≡_, sym, ap, _∙_}
-use mathlib.Core.Bool.{Bool, cond, not}
+use mathlib.Core.Path.{sym, ap, _∙_}
+use mathlib.Core.Bool.{cond, not}
 use mathlib.Core.List.{[]}
 use Rattle.std.specs.Options.{isSome}
 use Rattle.segment.specs.Columns.{faultOf}
