@@ -1,4 +1,6 @@
 // Collectors: what each document is worth to them, and how their fruits join.
+#![tactic(auto)]
+
 mod collector;
 mod count;
 mod each;

@@ -1,4 +1,6 @@
 // Tries bad input and limits, and prints a line for each case.
+#![tactic(auto)]
+
 mod blocks;
 mod cases;
 mod columns;

@@ -1,4 +1,6 @@
 // The documents of a query, each with its score, one after the other.
+#![tactic(auto)]
+
 mod all;
 mod fault;
 mod held;

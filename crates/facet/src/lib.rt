@@ -1,4 +1,6 @@
 // Facets: paths such as /dough/rye/light, of at most 127 bytes of UTF-8.
+#![tactic(auto)]
+
 mod encoded;
 mod fault;
 mod pieces;

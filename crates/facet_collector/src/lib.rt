@@ -1,2 +1,4 @@
 // Documents counted by facet.
+#![tactic(auto)]
+
 mod collapse;

@@ -1,4 +1,6 @@
 // Lists of recipes, and how many of them stand at or below each child of a branch.
+#![tactic(auto)]
+
 mod count;
 mod cut;
 mod fault;

@@ -1,4 +1,6 @@
 // Columns of terms and rows, segments of documents, and the questions that are asked of them.
+#![tactic(auto)]
+
 mod column;
 mod ends;
 mod fault;

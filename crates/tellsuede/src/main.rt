@@ -1,4 +1,6 @@
 // Counts the recipes of a list at or below each child of a branch.
+#![tactic(auto)]
+
 mod options;
 
 use facet::Facet;

@@ -1,4 +1,6 @@
 // UTF-8 by a table of lead bytes.
+#![tactic(auto)]
+
 ghost use Rattle.std.specs.Prelude.{◌≡◌, ◌<◌, ◌≤◌, true, false, length, IsUtf8, Decides, MatchOption};
 ghost use Rattle.utf8.specs.Octets.{utf8, octets, within, tail};
 ghost use Rattle.utf8.specs.Rows.{row_says, tails};

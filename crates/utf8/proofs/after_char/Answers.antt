@@ -10,9 +10,9 @@ use Rattle.utf8.proofs.after_char.Goals.{then-second-row-via-then-second-row, th
 pub returns-then-second-row : goal.returns-then-second-row
 returns-then-second-row c =
     let xs = c.args.bytes.now in
-    let r = c.row-of-row.result in
+    let r = c.row_of-row.result in
     let h : 2 ≤ length xs = omega (arith, ltb-false) in
-    let e = second xs r.len r.low r.high h (omega arith) (omega arith) c.row-of-row.ensures in
+    let e = second xs r.len r.low r.high h (omega arith) (omega arith) c.row_of-row.ensures in
     let f : within (span r.low r.high) (get_or xs 1 0) ≡ false =
     elim c.then-second-row.branch [
       | then-second-row-via-then-second-row w ↦ grind (arith, nat_tests)
@@ -33,8 +33,8 @@ behind (Some rest) t xs ys e l p = (e ∙ p.0, omega (arith, p.1))
 pub returns-else-row-second : goal.returns-else-row-second
 returns-else-row-second c =
     let xs = c.args.bytes.now in
-    let r = c.row-of-row.result in
+    let r = c.row_of-row.result in
     let h : 2 ≤ length xs = omega (arith, ltb-false) in
-    let e = second xs r.len r.low r.high h (omega arith) (omega arith) c.row-of-row.ensures in
+    let e = second xs r.len r.low r.high h (omega arith) (omega arith) c.row_of-row.ensures in
     let t : within (span r.low r.high) (get_or xs 1 0) ≡ true = grind (arith, nat_tests) in
-    behind c.after-tails.result (octets (tails r.len) (drop 2 xs)) xs (drop 2 xs) (grind arith) (simp length-drop (omega arith)) (simp rest_is at c.after-tails.ensures)
+    behind c.after_tails.result (octets (tails r.len) (drop 2 xs)) xs (drop 2 xs) (grind arith) (simp length-drop (omega arith)) (simp rest_is at c.after_tails.ensures)

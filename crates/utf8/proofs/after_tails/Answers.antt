@@ -10,7 +10,7 @@ returns-in-3-len1-up c =
     let xs = c.args.bytes.now in
     let h : 0 < length xs = omega (arith, ltb-false) in
     let e = ap (λ n. octets (tails n) xs) c.in-3-len1-up.is-0 ∙ one xs h in
-    let t = c.if-is-tail.ensures in
+    let t = c.if-is_tail.ensures in
     simp (rest_is, length-drop) (grind arith, omega arith)
 
 pub returns-in-4-len2-up : goal.returns-in-4-len2-up
@@ -18,6 +18,6 @@ returns-in-4-len2-up c =
     let xs = c.args.bytes.now in
     let h : 1 < length xs = omega (arith, ltb-false) in
     let e = ap (λ n. octets (tails n) xs) c.in-4-len2-up.is-0 ∙ two xs h in
-    let t = c.if-is-tail-2.ensures in
-    let u = c.if-is-tail-3.ensures in
+    let t = c.if-is_tail-2.ensures in
+    let u = c.if-is_tail-3.ensures in
     simp (rest_is, length-drop) (grind arith, omega arith)

@@ -9,8 +9,8 @@ use Rattle.utf8.proofs.is_utf8.Goals as goal
 decides : (r : Bool) (bs : List ℕ) → r ≡ utf8 bs → Decides r (IsUtf8 bs)
 decides r bs e = Decides-at r (utf8 bs) e (grammar_text bs, text_grammar bs)
 
-pub returns-in-default : goal.returns-in-default
-returns-in-default c = record { grammar = search rules; text = decides _ _ (search rules) }
+pub returns-in_default : goal.returns-in_default
+returns-in_default c = record { grammar = search rules; text = decides _ _ (search rules) }
 
 pub returns : goal.returns
 returns c =
