@@ -3,5 +3,5 @@ use Rattle.utf8.specs.Octets.{utf8}
 use Rattle.utf8.proofs.Laws.{grammar_text}
 use Rattle.facet.proofs.encoded.Facet.as_str.Goals as goal
 
-pub from-utf8-unchecked-requires : goal.from-utf8-unchecked-requires
-from-utf8-unchecked-requires c = grammar_text _ (ap utf8 c.encoded.ensures.value ∙ c.args.self.now.text)
+pub from_utf8_unchecked-requires : goal.from_utf8_unchecked-requires
+from_utf8_unchecked-requires c = grammar_text _ (ap utf8 c.encoded.ensures.value ∙ c.args.self.now.text)

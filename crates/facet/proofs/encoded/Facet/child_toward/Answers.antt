@@ -42,36 +42,36 @@ module _ (p f xs : List ℕ) (s n : ℕ) (h : above p f ≡ true) (e : xs ≡ f)
 whole : (n : ℕ) (xs : List ℕ) → take (n - 0) xs ≡ take n xs
 whole n xs = let z : n - 0 ≡ n = omega arith in ap (λ (m : ℕ). take m xs) z
 
-pub returns-then-not-is-prefix-of : goal.returns-then-not-is-prefix-of
-returns-then-not-is-prefix-of c = no_way_apart _ _ (sym c.if-not-is-prefix-of.ensures.value)
+pub returns-then-not-is_prefix_of : goal.returns-then-not-is_prefix_of
+returns-then-not-is_prefix_of c = no_way_apart _ _ (sym c.if-not-is_prefix_of.ensures.value)
 
-pub slice-bounds-step-end-count : goal.slice-bounds-step-end-count
-slice-bounds-step-end-count c = starts _ _ _ _ 0 (sym c.if-not-is-prefix-of.ensures.value) c.encoded-below.ensures.value c.child-offset-start.ensures
+pub slice_bounds-step_end-count : goal.slice_bounds-step_end-count
+slice_bounds-step_end-count c = starts _ _ _ _ 0 (sym c.if-not-is_prefix_of.ensures.value) c.encoded-below.ensures.value c.child_offset-start.ensures
 
-pub slice-bounds-step-end-start : goal.slice-bounds-step-end-start
-slice-bounds-step-end-start c =
-    let h = starts _ _ _ _ 0 (sym c.if-not-is-prefix-of.ensures.value) c.encoded-below.ensures.value c.child-offset-start.ensures in
+pub slice_bounds-step_end-start : goal.slice_bounds-step_end-start
+slice_bounds-step_end-start c =
+    let h = starts _ _ _ _ 0 (sym c.if-not-is_prefix_of.ensures.value) c.encoded-below.ensures.value c.child_offset-start.ensures in
     search rules
 
-pub overflow-add-end : goal.overflow-add-end
-overflow-add-end c =
-    let h = ends _ _ _ _ _ (sym c.if-not-is-prefix-of.ensures.value) c.encoded-below.ensures.value c.child-offset-start.ensures c.step-end.ensures in
+pub overflow_add-end : goal.overflow_add-end
+overflow_add-end c =
+    let h = ends _ _ _ _ _ (sym c.if-not-is_prefix_of.ensures.value) c.encoded-below.ensures.value c.child_offset-start.ensures c.step_end.ensures in
     let b = c.encoded-below.ensures.bound in
     search rules
 
 pub returns-then-end-eq0 : goal.returns-then-end-eq0
-returns-then-end-eq0 c = nowhere _ _ _ _ _ (sym c.if-not-is-prefix-of.ensures.value) c.encoded-below.ensures.value c.child-offset-start.ensures c.step-end.ensures c.if-end-eq0.true
+returns-then-end-eq0 c = nowhere _ _ _ _ _ (sym c.if-not-is_prefix_of.ensures.value) c.encoded-below.ensures.value c.child_offset-start.ensures c.step_end.ensures c.if-end-eq0.true
 
-pub slice-bounds-hold-end : goal.slice-bounds-hold-end
-slice-bounds-hold-end c =
-    let h = ends _ _ _ _ _ (sym c.if-not-is-prefix-of.ensures.value) c.encoded-below.ensures.value c.child-offset-start.ensures c.step-end.ensures in
+pub slice_bounds-hold-end : goal.slice_bounds-hold-end
+slice_bounds-hold-end c =
+    let h = ends _ _ _ _ _ (sym c.if-not-is_prefix_of.ensures.value) c.encoded-below.ensures.value c.child_offset-start.ensures c.step_end.ensures in
     search rules
 
 pub hold-requires : goal.hold-requires
 hold-requires c =
-    let h = ends _ _ _ _ _ (sym c.if-not-is-prefix-of.ensures.value) c.encoded-below.ensures.value c.child-offset-start.ensures c.step-end.ensures in
-    let t = text _ _ _ _ _ (sym c.if-not-is-prefix-of.ensures.value) c.encoded-below.ensures.value c.child-offset-start.ensures c.step-end.ensures (omega arith) c.args.other.now.text in
-    let n = c.child-offset-start.result + c.step-end.result in
+    let h = ends _ _ _ _ _ (sym c.if-not-is_prefix_of.ensures.value) c.encoded-below.ensures.value c.child_offset-start.ensures c.step_end.ensures in
+    let t = text _ _ _ _ _ (sym c.if-not-is_prefix_of.ensures.value) c.encoded-below.ensures.value c.child_offset-start.ensures c.step_end.ensures (omega arith) c.args.other.now.text in
+    let n = c.child_offset-start.result + c.step_end.result in
     let xs = c.encoded-below.result.now in
     let l = ap length (whole n xs) ∙ length-take-le n xs h in
     let b = c.encoded-below.ensures.bound in
@@ -79,5 +79,5 @@ hold-requires c =
 
 pub returns : goal.returns
 returns c =
-    subst (OnTheWay _ _) (sym (c.hold.ensures ∙ whole (c.child-offset-start.result + c.step-end.result) c.encoded-below.result.now))
-    (leads _ _ _ _ _ (sym c.if-not-is-prefix-of.ensures.value) c.encoded-below.ensures.value c.child-offset-start.ensures c.step-end.ensures (omega arith))
+    subst (OnTheWay _ _) (sym (c.hold.ensures ∙ whole (c.child_offset-start.result + c.step_end.result) c.encoded-below.result.now))
+    (leads _ _ _ _ _ (sym c.if-not-is_prefix_of.ensures.value) c.encoded-below.ensures.value c.child_offset-start.ensures c.step_end.ensures (omega arith))

@@ -31,6 +31,6 @@ returns c =
     let e = c.encoded-encoded.ensures.value in
     record {
       value = c.loop-b.invariant.0 ∙ ap (λ (l : List ℕ). suc (zeros l)) (take_all c.loop-b.b-index _ c.loop-b-test.false ∙ e)
-          ∙ sym (depth_is f (λ z. eqb-false _ 0 (sym c.if-is-empty.ensures) (ap length e ∙ z)));
+          ∙ sym (depth_is f (λ z. eqb-false _ 0 (sym c.if-is_empty.ensures) (ap length e ∙ z)));
       joined = steps_join f;
     }

@@ -28,7 +28,7 @@ unescape-requires c =
     let xs = c.args.text.now in
     let h : 0 < length xs = omega (arith, ltb-false) in
     let e : get_or xs 0 0 ≡ 47 = omega (arith, eqb-true) in
-    ap utf8 (take_rest xs 1) ∙ rest_utf8 xs h e (sym c.if-not-is-utf8.ensures.grammar)
+    ap utf8 (take_rest xs 1) ∙ rest_utf8 xs h e (sym c.if-not-is_utf8.ensures.grammar)
 
 pub returns : goal.returns
 returns c =
@@ -36,4 +36,4 @@ returns c =
     let h : 0 < length xs = omega (arith, ltb-false) in
     let e : get_or xs 0 0 ≡ 47 = omega (arith, eqb-true) in
     c.unescape.ensures ∙ ap (λ (l : List ℕ). limited (unescaped false l)) (take_rest xs 1)
-    ∙ sym (read_slashed xs c.if-text-gt255.false (sym c.if-not-is-utf8.ensures.grammar) h e)
+    ∙ sym (read_slashed xs c.if-text-gt255.false (sym c.if-not-is_utf8.ensures.grammar) h e)

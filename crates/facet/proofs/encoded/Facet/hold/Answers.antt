@@ -6,13 +6,18 @@ use Rattle.facet.proofs.encoded.Facet.hold.Goals as goal
 put : (e s : List ℕ) → s ≡ e → s ++ drop (length e - 0) (replicate 127 0) ≡ e ++ drop (length e) (replicate 127 0)
 put e s q = let z : length e - 0 ≡ length e = omega arith in λ i. q i ++ drop (z i) (replicate 127 0)
 
-pub invariant-of-result : goal.invariant-of-result
-invariant-of-result c =
+pub invariant_of-result : goal.invariant_of-result
+invariant_of-result c =
     let e = c.args.encoded.now in
-    let q = put e c.copy-from-slice.new.self c.copy-from-slice.ensures.after in
-    (padded_length e _ c.requires.0 q, (c.requires.0, (ap utf8 (padded_front e _ c.requires.0 q) ∙ c.requires.1, (padded_zeros e _ c.requires.0 q, tt))))
+    let q = put e c.copy_from_slice.new.self c.copy_from_slice.ensures.after in
+    record {
+      full = padded_length e _ c.requires.0 q;
+      within = c.requires.0;
+      text = ap utf8 (padded_front e _ c.requires.0 q) ∙ c.requires.1;
+      padded = padded_zeros e _ c.requires.0 q;
+    }
 
 pub returns : goal.returns
 returns c =
     let e = c.args.encoded.now in
-    padded_front e _ c.requires.0 (put e c.copy-from-slice.new.self c.copy-from-slice.ensures.after)
+    padded_front e _ c.requires.0 (put e c.copy_from_slice.new.self c.copy_from_slice.ensures.after)

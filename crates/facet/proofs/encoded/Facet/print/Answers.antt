@@ -21,7 +21,7 @@ grown xs ys all buffer after n m l e b a =
 pub loop-b-init : goal.loop-b-init
 loop-b-init c =
     let p = ap length (printed_is (encoded_of c.args.self.now)) in
-    (refl, first_set c.args.buffer.now 47 (omega (arith, c.printed-len.ensures.0)))
+    (refl, first_set c.args.buffer.now 47 (omega (arith, c.printed_len.ensures.0)))
 
 pub put-at-requires : goal.put-at-requires
 put-at-requires c =
@@ -33,7 +33,7 @@ put-at-requires c =
     let m = ap length (joined_more xs i c.loop-b-test.true) ∙ length-append (flat_map shown (take i xs)) (shown (get_or xs i 0)) in
     let t = joined_front (i + 1) xs in
     let k = c.loop-b.auto.buffer ∙ length-set c.args.buffer.now 0 47 in
-    omega (arith, c.loop-b.invariant.0, c.printed-len.ensures.0)
+    omega (arith, c.loop-b.invariant.0, c.printed_len.ensures.0)
 
 pub loop-b-preserved : goal.loop-b-preserved
 loop-b-preserved c =
@@ -54,6 +54,6 @@ returns c =
     let p : (47 ∷ flat_map shown (take c.loop-b.b-index c.encoded-encoded.result.now)) ≡ printed f = ap (λ (l : List ℕ). 47 ∷ flat_map shown l) a ∙ sym (printed_is f) in
     let n = c.loop-b.invariant.0 ∙ ap length p in (
       n,
-      omega (arith, c.printed-len.ensures.0),
+      omega (arith, c.printed_len.ensures.0),
       c.loop-b.invariant.1 ∙ (λ i. p i ++ drop-set-lt c.loop-b.at c.args.buffer.now 0 47 (omega (arith, c.loop-b.invariant.0)) i),
     )

@@ -6,8 +6,8 @@ use Rattle.facet.specs.Text.{shown, printed}
 use Rattle.facet.proofs.Texts.{joined_more, length_shown, printed_is}
 use Rattle.facet.proofs.encoded.Facet.printed_len.Goals as goal
 
-pub overflow-add-len : goal.overflow-add-len
-overflow-add-len c = let s = length_shown (get_or c.encoded-encoded.result.now c.loop-b.b-index 0) in omega (arith, c.shown-len-len.ensures, c.loop-b.invariant.1, c.encoded-encoded.ensures.bound)
+pub overflow_add-len : goal.overflow_add-len
+overflow_add-len c = let s = length_shown (get_or c.encoded-encoded.result.now c.loop-b.b-index 0) in omega (arith, c.shown_len-len.ensures, c.loop-b.invariant.1, c.encoded-encoded.ensures.bound)
 
 pub loop-b-preserved : goal.loop-b-preserved
 loop-b-preserved c =
@@ -15,7 +15,7 @@ loop-b-preserved c =
     let i = c.loop-b.b-index in
     let e = ap length (joined_more xs i c.loop-b-test.true) ∙ length-append (flat_map shown (take i xs)) (shown (get_or xs i 0)) in
     let s = length_shown (get_or xs i 0) in
-    (omega (arith, c.shown-len-len.ensures, c.loop-b.invariant.0), omega (arith, c.shown-len-len.ensures, c.loop-b.invariant.1))
+    (omega (arith, c.shown_len-len.ensures, c.loop-b.invariant.0), omega (arith, c.shown_len-len.ensures, c.loop-b.invariant.1))
 
 pub returns : goal.returns
 returns c =

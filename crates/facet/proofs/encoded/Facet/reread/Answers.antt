@@ -11,7 +11,7 @@ returns-in-Ok c =
     let e = length_encoded f in
     let w = c.in-Ok.ensures in
     record {
-      value = c.from-text.ensures ∙ ap read (text_front _ _ _ _ w.0 w.2) ∙ reads_back (encoded_of f) (omega (arith, f.within)) f.text;
+      value = c.from_text.ensures ∙ ap read (text_front _ _ _ _ w.0 w.2) ∙ reads_back (encoded_of f) (omega (arith, f.within)) f.text;
       law = reads_back;
       worked = refl;
     }

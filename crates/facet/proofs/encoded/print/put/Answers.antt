@@ -31,12 +31,12 @@ returns-then-b-eq-SEPARATOR c =
     let u = one _ _ 47 c.args.b (shown_separator c.args.b c.if-b-eq-SEPARATOR.true) c.requires in
     record { end = u.0; written = u.1 }
 
-pub returns-then-is-escaped : goal.returns-then-is-escaped
-returns-then-is-escaped c =
-    let u = two _ _ 92 c.args.b c.args.b (shown_step c.args.b true c.if-b-eq-SEPARATOR.false c.if-is-escaped.ensures) c.requires in
+pub returns-then-is_escaped : goal.returns-then-is_escaped
+returns-then-is_escaped c =
+    let u = two _ _ 92 c.args.b c.args.b (shown_step c.args.b true c.if-b-eq-SEPARATOR.false c.if-is_escaped.ensures) c.requires in
     record { end = u.0; written = u.1 }
 
 pub returns : goal.returns
 returns c =
-    let u = one _ _ c.args.b c.args.b (shown_step c.args.b false c.if-b-eq-SEPARATOR.false c.if-is-escaped.ensures) c.requires in
+    let u = one _ _ c.args.b c.args.b (shown_step c.args.b false c.if-b-eq-SEPARATOR.false c.if-is_escaped.ensures) c.requires in
     record { end = u.0; written = u.1 }

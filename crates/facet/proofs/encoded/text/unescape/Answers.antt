@@ -44,13 +44,13 @@ loop-b-preserved c =
     let h : c.loop-b.len < length c.loop-b.bytes = omega arith in
     (simp length-set (omega arith), omega arith, padded _ _ _ v.2, pushed _ _ _ _ _ _ h v.3 c.in-Some.ensures.0)
 
-pub invariant-of-result : goal.invariant-of-result
-invariant-of-result c =
+pub invariant_of-result : goal.invariant_of-result
+invariant_of-result c =
     let v = c.loop-b.invariant in
-    let w = whole _ c.loop-b.bytes _ c.loop-b.len v.3 c.in-default.ensures in
-    (v.0, (v.1, (ap utf8 (sym w) ∙ utf8_unescaped c.args.text.now c.requires, (v.2, tt))))
+    let w = whole _ c.loop-b.bytes _ c.loop-b.len v.3 c.in_default.ensures in
+    record { full = v.0; within = v.1; text = ap utf8 (sym w) ∙ utf8_unescaped c.args.text.now c.requires; padded = v.2 }
 
 pub returns : goal.returns
 returns c =
     let v = c.loop-b.invariant in
-    sym (fits _ _ _ v.0 v.1 (whole _ c.loop-b.bytes _ c.loop-b.len v.3 c.in-default.ensures))
+    sym (fits _ _ _ v.0 v.1 (whole _ c.loop-b.bytes _ c.loop-b.len v.3 c.in_default.ensures))

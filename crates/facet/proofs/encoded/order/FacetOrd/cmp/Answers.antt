@@ -1,9 +1,13 @@
-use Rattle.std.proofs.Common.{◌≡◌, ℕ, List, Ordering}
-use Rattle.facet.specs.Facets.{Ordered}
+use Rattle.std.proofs.Common.{◌≡◌, List, ℕ, sym, subst, ◌∙◌}
+use Rattle.std.specs.declared.cmp.Ordering.{Ordering}
+use Rattle.facet.specs.Facets.{Ordered, ordered}
+use Rattle.facet.specs.Paths.{order}
 use Rattle.facet.proofs.encoded.order.FacetOrd.cmp.Goals as goal
 
-moved : (xs ys us vs : List ℕ) (r : Ordering) → xs ≡ us → ys ≡ vs → Ordered xs ys r → Ordered us vs r
-moved xs ys us vs r p q h = rw (p, q) at h
+by_order : (f g : List ℕ) (r : Ordering) → r ≡ order f g → Ordered f g r
+by_order f g r e = subst (λ (o : Ordering). Ordered f g o) (sym e) (ordered f g)
 
 pub returns : goal.returns
-returns c = moved _ _ _ _ _ c.encoded.ensures.value c.encoded-2.ensures.value c.cmp.ensures
+returns c =
+    let e = c.cmp.ensures ∙ (λ i. order (c.encoded.ensures.value i) (c.encoded-2.ensures.value i)) in
+    record { value = e; ordered = by_order _ _ _ e }

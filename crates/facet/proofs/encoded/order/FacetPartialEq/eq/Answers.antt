@@ -1,11 +1,10 @@
-use Rattle.std.proofs.Common.{sym, ◌∙◌}
-use Rattle.std.proofs.lemmas.Slice.Eq.{slice_eq-Decides}
+use Rattle.std.proofs.Common.{◌∙◌}
+use Rattle.std.specs.Cmp.Lexicographic.{bytes_decides}
+use Rattle.std.specs.Str.{bytes_eq}
+use Rattle.std.proofs.lemmas.Bool.Decides.{Decides-at}
 use Rattle.facet.proofs.encoded.order.FacetPartialEq.eq.Goals as goal
-use Rattle.std.proofs.lemmas.Bool.Decides.{Decides-eqb}
 
 pub returns : goal.returns
 returns c =
-    let d = slice_eq-Decides Decides-eqb _ _ _ c.eq.ensures in
-    let p = c.encoded.ensures.value in
-    let q = c.encoded-2.ensures.value in
-    (λ t. sym p ∙ d.0 t ∙ q, λ e. d.1 (p ∙ e ∙ sym q))
+    let e = c.eq.ensures ∙ (λ i. bytes_eq (c.encoded.ensures.value i) (c.encoded-2.ensures.value i)) in
+    record { value = e; decides = Decides-at _ _ e (bytes_decides _ _) }
