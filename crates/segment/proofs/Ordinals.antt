@@ -1,21 +1,19 @@
 -- What a column's terms and rows keep, place by place. Assumes nothing.
-use Rattle.std.proofs.Common.{◌≡◌, ℕ, zero, suc, ◌+◌, ◌-◌, ◌<◌, ◌≤◌, Bool, true, false, cond, ◌&&◌, ◌||◌, eqb, ltb, leb, List, [], ◌∷◌, length, get_or, take, drop, Some, None, Option, Ordering, Less, Equal, Greater, sym, refl, ap, ◌∙◌, subst, arith, length-drop, length-take}
+use Rattle.std.proofs.Common.{◌≡◌, ℕ, zero, suc, ◌+◌, ◌-◌, ◌<◌, ◌≤◌, Bool, true, false, cond, ◌&&◌, ◌||◌, eqb, ltb, leb, List, [], ◌∷◌, length, get_or, drop, Some, None, Ordering, Less, Equal, Greater, sym, refl, ap, ◌∙◌, subst, arith, length-drop, length-take}
 use Rattle.facet.specs.Paths.{order, steps}
 use Rattle.std.proofs.lemmas.List.{get_or-take, get_or-drop}
-use Rattle.std.proofs.lemmas.Bool.{leb-true, ltb-true, and_parts, or_cases, eqb-true, cases_eq}
-use Rattle.std.specs.Cmp.{nat_cmp_total}
-use Rattle.std.specs.Cmp.Lexicographic.{lexical}
-use Rattle.std.specs.Option.{option_map, option_or}
+use Rattle.std.proofs.lemmas.Bool.{leb-true, ltb-true, eqb-true}
+use Rattle.std.specs.Cmp.Lexicographic.{nat_list_cmp_total}
+use Rattle.std.specs.Option.{option_map}
 use Rattle.std.specs.Ordering.{is_lt}
 use Rattle.utf8.specs.Octets.{utf8}
 use Rattle.segment.specs.declared.column.Column.{Column}
-use Rattle.segment.specs.declared.fault.ColumnFault.{ColumnFault}
 use Rattle.segment.specs.declared.fault.ColumnFault.TheVariants.{TooLarge, TermEnds, TermNotUtf8, EmptyStep, TermOrder, RowEnds, NoTerm, OrdinalOrder}
 use Rattle.segment.specs.Columns.{ends_fault, full, after, rises, falls_from, terms_fault, rows_fault, fault_of, sound}
 use Rattle.segment.specs.Held.{terms_of, rows_of}
-use Rattle.segment.specs.Items.{start_of, end_of, items, first_failing, Within}
+use Rattle.segment.specs.Items.{start_of, end_of, items, first_failing}
 use Rattle.segment.proofs.Sounds.{mapped_none, none_from, row_within, short_terms, length_terms, length_rows}
-use Rattle.segment.proofs.Spans.{both_none, all_pass, item_at, length_items}
+use Rattle.segment.proofs.Spans.{both_none, all_pass, item_at}
 
 is_less : (o : Ordering) → is_lt o ≡ true → o ≡ Less
 is_less Less e = refl
@@ -80,7 +78,7 @@ module _ (bytes ends rowEnds ordinals : List ℕ) (ok : sound bytes ends rowEnds
   ascend_by i (suc n) h =
       let z : i + suc n + 1 ≡ i + suc (suc n) = omega arith in
       let b = is_less _ (after_passes [] rises (items ends bytes) (length ends) (i + suc n) order_none (omega arith)) in
-      subst (λ j. order (get_or (items ends bytes) i []) (get_or (items ends bytes) j []) ≡ Less) z ((lexical nat_cmp_total).trans (get_or (items ends bytes) i []) (get_or (items ends bytes) (i + suc n) []) (get_or (items ends bytes) (i + suc n + 1) []) (ascend_by i n (omega arith)) b)
+      subst (λ j. order (get_or (items ends bytes) i []) (get_or (items ends bytes) j []) ≡ Less) z (nat_list_cmp_total.trans (get_or (items ends bytes) i []) (get_or (items ends bytes) (i + suc n) []) (get_or (items ends bytes) (i + suc n + 1) []) (ascend_by i n (omega arith)) b)
 
 -- ---- of a column
 

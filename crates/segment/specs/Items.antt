@@ -1,5 +1,5 @@
 -- Items that stand one behind the other in one list, by their ends. Assumes nothing.
-use Rattle.std.specs.Prelude.{ℕ, zero, suc, ◌-◌, ◌<◌, ◌≤◌, Bool, cond, List, [], ◌∷◌, length, Some, None, Option, slice_index, slice_range}
+use Rattle.std.specs.Prelude.{ℕ, zero, suc, ◌<◌, ◌≤◌, Bool, cond, List, [], ◌∷◌, length, Some, None, Option, slice_index, slice_range}
 
 -- where item i starts: at the end before it, and at 0 for the first
 abbrev pub start_of : List ℕ → ℕ → ℕ

@@ -15,8 +15,8 @@ pub trait Test {
 }
 
 pub(crate) fn first_failing<T: Test>(test: &T, count: usize) -> Option<usize>
-    requires { (i : ℕ) → i < count → can test.now i }
-    ensures { result ≡ first_failing (tests test.now) 0 count }
+    requires { (i : ℕ) → i < count → T.can test.now i }
+    ensures { result ≡ first_failing (T.tests test.now) 0 count }
 {
     for place in 0..count {
         if !test.passes(place) {

@@ -6,4 +6,4 @@ pub returns : goal.returns
 returns g c =
     let ends = c.args.ends.now in
     let i = c.args.i in
-    ap (λ (s : ℕ). take (get_or ends i 0 - s) (drop s c.args.all.now)) c.start-of-start.ensures ∙ item_at 0 ends c.args.all.now i c.requires.0
+    ap (λ (s : ℕ). take (get_or ends i 0 - s) (drop s c.args.all.now)) c.start_of-start.ensures ∙ item_at 0 ends c.args.all.now i c.requires.0

@@ -4,4 +4,4 @@ use Rattle.segment.specs.Items.{start_of, items}
 use Rattle.segment.proofs.rows.fall.Given as goal
 
 abbrev pub invariant-loop-i : goal.invariant-loop-i
-invariant-loop-i l = falls_from 0 (items l.row-ends l.ordinals) ≡ falls_from (start_of l.row-ends l.i) (drop l.i (items l.row-ends l.ordinals))
+invariant-loop-i l = falls_from 0 (items l.row_ends l.ordinals) ≡ falls_from (start_of l.row_ends l.i) (drop l.i (items l.row_ends l.ordinals))

@@ -6,7 +6,7 @@ use Rattle.segment.proofs.terms.is_full.Goals as goal
 use Rattle.segment.proofs.terms.is_full.Goals.{then-b-ne0, else-b-ne0+then-begun}
 
 pub loop-b-init : goal.loop-b-init
-loop-b-init c = full_steps c.args.term.now (eqb-false _ 0 (sym c.if-is-empty.ensures))
+loop-b-init c = full_steps c.args.term.now (eqb-false _ 0 (sym c.if-is_empty.ensures))
 
 pub returns-else-begun : goal.returns-else-begun
 returns-else-begun c =

@@ -7,12 +7,12 @@ use Rattle.segment.specs.Columns.{asked, terms_fault, rows_fault}
 use Rattle.segment.proofs.Sounds.{asked_err}
 use Rattle.segment.proofs.column.Column.check.Goals as goal
 
-pub returns-in-err-check-terms : goal.returns-in-err-check-terms
-returns-in-err-check-terms c =
-    let ends = c.args.term-ends.now in
-    let rows = c.args.row-ends.now in
-    let p = err_from_is_err_and c.from-residual.result c.from-residual.ensures.1 in
-    let few = and_from (leb (length ends) 4096) (leb (length rows) 65535) (le-leb (length ends) 4096 c.if-term-ends-gt-MOST-TERMS.false) (le-leb (length rows) 65535 c.if-row-ends-gt-MOST-ROWS.false) in
-    let found = asked_err (terms_fault c.args.term-bytes.now ends) _ c.in-err-check-terms.ensures in
+pub returns-in_err-check_terms : goal.returns-in_err-check_terms
+returns-in_err-check_terms c =
+    let ends = c.args.term_ends.now in
+    let rows = c.args.row_ends.now in
+    let p = err_from_is_err_and c.from_residual.result c.from_residual.ensures.1 in
+    let few = and_from (leb (length ends) 4096) (leb (length rows) 65535) (le-leb (length ends) 4096 c.if-term_ends-gt-MOST_TERMS.false) (le-leb (length rows) 65535 c.if-row_ends-gt-MOST_ROWS.false) in
+    let found = asked_err (terms_fault c.args.term_bytes.now ends) _ c.in_err-check_terms.ensures in
     p.1 ∙ ap Err p.2
     ∙ sym (λ i. asked (option_or (cond (few i) None (Some TooLarge)) (option_or (found i) (rows_fault rows c.args.ordinals.now (length ends)))))

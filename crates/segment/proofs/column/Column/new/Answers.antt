@@ -6,11 +6,11 @@ use Rattle.segment.proofs.column.Column.new.Goals as goal
 
 pub returns : goal.returns
 returns c =
-    let bytes = c.args.term-bytes.now in
-    let ends = c.args.term-ends.now in
-    let rows = c.args.row-ends.now in
+    let bytes = c.args.term_bytes.now in
+    let ends = c.args.term_ends.now in
+    let rows = c.args.row_ends.now in
     let ordinals = c.args.ordinals.now in
-    let ok = asked_ok (fault_of bytes ends rows ordinals) _ c.in-default.ensures in
+    let ok = asked_ok (fault_of bytes ends rows ordinals) _ c.in_default.ensures in
     record {
       terms = sym (ap (λ o. cond (not (is_some o)) (items ends bytes) []) ok);
       rows = sym (ap (λ o. cond (not (is_some o)) (items rows ordinals) []) ok);
@@ -18,9 +18,9 @@ returns c =
 
 pub returns-in-Err : goal.returns-in-Err
 returns-in-Err c =
-    let bytes = c.args.term-bytes.now in
-    let ends = c.args.term-ends.now in
-    let rows = c.args.row-ends.now in
+    let bytes = c.args.term_bytes.now in
+    let ends = c.args.term_ends.now in
+    let rows = c.args.row_ends.now in
     let ordinals = c.args.ordinals.now in
     let bad = asked_err (fault_of bytes ends rows ordinals) _ c.in-Err.ensures in
     record {

@@ -7,4 +7,4 @@ pub returns-then-place-self : goal.returns-then-place-self
 returns-then-place-self c = sym (no_field false is_facet (fields_of c.args.self.now) c.args.place c.if-place-self.true)
 
 pub returns : goal.returns
-returns c = c.is-facet.ensures ∙ sym (at_field_kind false is_facet (fields_of c.args.self.now) c.args.place _ c.if-place-self.false)
+returns c = c.is_facet.ensures ∙ sym (at_field_kind false is_facet (fields_of c.args.self.now) c.args.place _ c.if-place-self.false)

@@ -13,11 +13,11 @@ carried : (r : Result (Unit {0}) ColumnFault) (o : Option ColumnFault) (m n : �
 carried (Ok u) o m n e h q = absurd h
 carried (Err f) o m n e h q = (h.0, asked_err o f q ∙ ap (λ x. Some x) (sym h.1))
 
-pub returns-in-err-with-place : goal.returns-in-err-with-place
-returns-in-err-with-place c =
+pub returns-in_err-with_place : goal.returns-in_err-with_place
+returns-in_err-with_place c =
     let fs = c.args.fields.now in
     let f = c.args.field.now in
-    let p = err_from_is_err_and c.from-residual.result c.from-residual.ensures.1 in
-    let k = carried _ (kind_fault f.kind) _ _ _ c.in-err-with-place.ensures c.check-kind.ensures in
-    p.1 ∙ ap Err (p.2 ∙ (λ i. Column (k.0 i) c.in-err-with-place.field-0.0.fault))
+    let p = err_from_is_err_and c.from_residual.result c.from_residual.ensures.1 in
+    let k = carried _ (kind_fault f.kind) _ _ _ c.in_err-with_place.ensures c.check_kind.ensures in
+    p.1 ∙ ap Err (p.2 ∙ (λ i. Column (k.0 i) c.in_err-with_place.field-0.0.fault))
     ∙ sym (λ i. asked (option_or (option_map (λ e. Column (length fs) e) (k.1 i)) (cond (admits fs f.name.now) None (Some (Name (length fs))))))

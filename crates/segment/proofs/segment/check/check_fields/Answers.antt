@@ -17,14 +17,14 @@ from fs i d o h q =
     ∙ (λ j. option_or (field_fault (take (z j) fs) (get_or fs i d)) (fields_from (sym (take_more fs i d h) j) (drop (i + 1) fs)))
     ∙ ap (λ p. option_or p (fields_from (take (i + 1) fs) (drop (i + 1) fs))) q
 
-pub returns-in-err-check-field : goal.returns-in-err-check-field
-returns-in-err-check-field c =
-    let p = err_from_is_err_and c.from-residual.result c.from-residual.ensures.1 in
+pub returns-in_err-check_field : goal.returns-in_err-check_field
+returns-in_err-check_field c =
+    let p = err_from_is_err_and c.from_residual.result c.from_residual.ensures.1 in
     p.1 ∙ ap Err p.2
-    ∙ sym (ap asked (c.loop-i.invariant ∙ from c.args.fields.now c.loop-i.i _ (Some c.in-err-check-field.field-0.0) c.loop-i-test.true (asked_err _ _ c.in-err-check-field.ensures)))
+    ∙ sym (ap asked (c.loop-i.invariant ∙ from c.args.fields.now c.loop-i.i _ (Some c.in_err-check_field.field-0.0) c.loop-i-test.true (asked_err _ _ c.in_err-check_field.ensures)))
 
 pub loop-i-preserved : goal.loop-i-preserved
-loop-i-preserved c = c.loop-i.invariant ∙ from c.args.fields.now c.loop-i.i _ None c.loop-i-test.true (asked_ok _ _ c.in-ok-check-field.ensures)
+loop-i-preserved c = c.loop-i.invariant ∙ from c.args.fields.now c.loop-i.i _ None c.loop-i-test.true (asked_ok _ _ c.in_ok-check_field.ensures)
 
 pub returns : goal.returns
 returns c =
