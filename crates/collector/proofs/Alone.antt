@@ -1,5 +1,5 @@
 -- Each collector within a combination holds what it would hold alone. Assumes nothing.
-use Rattle.std.proofs.Common.{◌≡◌, ℕ, Bool, true, List, [], ◌∷◌, Some, Ok, Err, Option, Result, refl, ap, ◌∙◌}
+use Rattle.std.proofs.Common.{◌≡◌, ℕ, Bool, List, [], ◌∷◌, Some, Ok, Err, Option, Result, refl, ap, ◌∙◌}
 use lib.Ieee.{Float}
 use Rattle.std.proofs.lemmas.List.Sorted.{IsPermutation-refl}
 use Rattle.collector.specs.declared.fault.CollectorFault.{CollectorFault}

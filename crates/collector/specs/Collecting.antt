@@ -1,5 +1,5 @@
 -- What the calls of a collector answer. Assumes nothing.
-use Rattle.std.specs.Prelude.{◌≡◌, ℕ, Bool, cond, List, [], ◌∷◌, map, Some, None, Ok, Err, Option, Result, nat_lt, Float}
+use Rattle.std.specs.Prelude.{◌≡◌, ℕ, cond, List, [], ◌∷◌, map, Some, None, Ok, Err, Option, Result, nat_lt, Float}
 use Rattle.docset.specs.Pairs.{zero_score}
 use Rattle.segment.specs.Columns.{asked}
 use Rattle.collector.specs.declared.fault.CollectingFault.{CollectingFault}

@@ -4,7 +4,7 @@ use Rattle.std.specs.declared.cmp.Ordering.TheVariants.{Less}
 use Rattle.facet.specs.Paths.{at_or_below, child, order}
 use Rattle.std.specs.List.{AllByRecursion as All}
 use Rattle.std.specs.Str.{bytes_eq}
-use Rattle.collector.specs.Contents.{Contents, Named, FacetField}
+use Rattle.collector.specs.Contents.{Named, FacetField}
 use Rattle.collector.specs.Meaning.{Meaning, Collected, joined}
 
 -- the first field of the name

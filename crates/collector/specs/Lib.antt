@@ -11,3 +11,4 @@ pub mod Parts
 pub mod Collections
 pub mod ScoresLemmas
 pub mod PartsLemmas
+pub mod FloorLemmas

@@ -5,6 +5,8 @@ ghost use Rattle.collector.specs.Counts.{counting};
 ghost use Rattle.collector.specs.Places.{itself as only, no_facets};
 ghost use Rattle.collector.specs.Scores.{reaches};
 ghost use Rattle.collector.specs.declared.fault.FloorFault.TheVariants.{NotANumber};
+ghost use Rattle.collector.specs.FloorLemmas.{floor_lawful, floor_agree};
+ghost use Rattle.collector.specs.PartsLemmas.{parted_alone};
 ghost use Rattle.collector.specs.ScoresLemmas.{eq_itself};
 
 use crate::collector::Collector;
@@ -57,7 +59,13 @@ impl Collector for Floor {
 
     ghost places = { only (λ f. counting true (reaches f.floor)) (λ f g. equal f.floor g.floor) no_facets };
 
+    ghost lawful = { λ c. floor_lawful c.floor };
+
     ghost itself = { λ c. eq_itself c.floor c.number };
+
+    ghost agree = { λ c d. floor_agree c.floor d.floor };
+
+    ghost parted = { parted_alone _ _ (λ c. floor_lawful c.floor) (λ c d. floor_agree c.floor d.floor) };
 
     fn for_segment(&self, _ordinal: u32, _segment: &Segment) -> Result<u32, OpeningFault> {
         Ok(0)
