@@ -2,7 +2,7 @@
 use Rattle.std.proofs.Common.{◌≡◌, ℕ, zero, suc, ◌<◌, Bool, true, false, cond, List, [], ◌∷◌, length, get_or, set, is_ok, IfOk, Some, None, Option, Result, sym, refl, ap, ◌∙◌, subst, arith, ltb-true, lt-ltb}
 use lib.Ieee.{Float}
 use Rattle.std.proofs.lemmas.List.Sorted.{IsPermutation-keeps}
-use Rattle.std.specs.List.{swap, AllByRecursion as All}
+use Rattle.std.specs.List.{swap, AllByRecursion}
 use Rattle.std.specs.List.Sorted.{IsPermutation}
 use Rattle.docset.specs.Pairs.{docs_of, zero_score}
 use Rattle.collector.specs.declared.fault.CollectingFault.{CollectingFault}
@@ -86,17 +86,17 @@ module _ {V : Type 0} {m : Meaning V} (laws : Laws m) (n : ℕ) (s : Contents) w
   asks v p true false e = let z : ◌≡◌ {A = ℕ} 0 1 = cc in absurd (omega arith)
   asks v p false b e = let z : ◌≡◌ {A = ℕ} 0 1 = cc in absurd (omega arith)
 
-  gathered_within : (v : V) (ps : List (ℕ × Float)) → m.has v ≡ true → m.fits v ≡ true → (gathered m n s v ps).1 ≡ None → All (λ (p : ℕ × Float). p.0 < s.docs) ps × (m.fits (m.join v (of ps)) ≡ true)
+  gathered_within : (v : V) (ps : List (ℕ × Float)) → m.has v ≡ true → m.fits v ≡ true → (gathered m n s v ps).1 ≡ None → AllByRecursion (λ (p : ℕ × Float). p.0 < s.docs) ps × (m.fits (m.join v (of ps)) ≡ true)
   gathered_within v [] h f e = (tt, ap m.fits (none_left v h) ∙ f)
   gathered_within v (p ∷ ps) h f e = go (collecting_fault m n s v p) refl e (gathered_within (more m n s v p) ps (has_more v p h))
     where
-      go : (o : Option CollectingFault) → collecting_fault m n s v p ≡ o → (unless o v (gathered m n s (more m n s v p) ps)).1 ≡ None → (m.fits (more m n s v p) ≡ true → (gathered m n s (more m n s v p) ps).1 ≡ None → All (λ (q : ℕ × Float). q.0 < s.docs) ps × (m.fits (m.join (more m n s v p) (of ps)) ≡ true)) → All (λ (q : ℕ × Float). q.0 < s.docs) (p ∷ ps) × (m.fits (m.join v (of (p ∷ ps))) ≡ true)
+      go : (o : Option CollectingFault) → collecting_fault m n s v p ≡ o → (unless o v (gathered m n s (more m n s v p) ps)).1 ≡ None → (m.fits (more m n s v p) ≡ true → (gathered m n s (more m n s v p) ps).1 ≡ None → AllByRecursion (λ (q : ℕ × Float). q.0 < s.docs) ps × (m.fits (m.join (more m n s v p) (of ps)) ≡ true)) → AllByRecursion (λ (q : ℕ × Float). q.0 < s.docs) (p ∷ ps) × (m.fits (m.join v (of (p ∷ ps))) ≡ true)
       go None a k ih =
           let (l, g) = asks v p _ _ a in
           let (w, t) = ih g k in ((ltb-true _ _ l, w), ap m.fits (sym (one_more v p ps h)) ∙ t)
       go (Some x) a k ih = let z : ◌≡◌ {A = ℕ} 0 1 = cc in absurd (omega arith)
 
-  within_gathered : (v : V) (ps : List (ℕ × Float)) → m.has v ≡ true → All (λ (p : ℕ × Float). p.0 < s.docs) ps → m.fits (m.join v (of ps)) ≡ true → (gathered m n s v ps).1 ≡ None
+  within_gathered : (v : V) (ps : List (ℕ × Float)) → m.has v ≡ true → AllByRecursion (λ (p : ℕ × Float). p.0 < s.docs) ps → m.fits (m.join v (of ps)) ≡ true → (gathered m n s v ps).1 ≡ None
   within_gathered v [] h w f = refl
   within_gathered v (p ∷ ps) h w f =
       let g = ap m.fits (one_more v p ps h) ∙ f in

@@ -1,6 +1,6 @@
 -- Documents of one segment, collected and harvested. Assumes nothing.
 use Rattle.std.specs.Prelude.{◌≡◌, ℕ, ◌<◌, true, false, ◌↔◌, List, map, is_ok, IfOk, Some, None, Ok, Err, Option, Result, Float}
-use Rattle.std.specs.List.{AllByRecursion as All}
+use Rattle.std.specs.List.{AllByRecursion}
 use Rattle.std.specs.List.Sorted.{IsPermutation}
 use Rattle.docset.specs.Pairs.{docs_of}
 use Rattle.collector.specs.declared.fault.CollectingFault.{CollectingFault}
@@ -28,7 +28,7 @@ documents n s ps = map (λ p. record { ordinal = n; segment = s; document = p.0;
 -- the segment is not refused, every document is in it, and all that they are worth fits
 pub record Accepted {V : Type 0} (m : Meaning V) (n : ℕ) (s : Contents) (ps : List (ℕ × Float)) : Type 0 where
   pub unrefused : m.refusal s ≡ None
-  pub within : All (λ (p : ℕ × Float). p.0 < s.docs) ps
+  pub within : AllByRecursion (λ (p : ℕ × Float). p.0 < s.docs) ps
   pub fit : m.fits (joined m (documents n s ps)) ≡ true
 
 -- it is the blank fruit joined with what the documents are worth, in any order; and there is one exactly when they are accepted

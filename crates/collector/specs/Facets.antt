@@ -2,7 +2,7 @@
 use Rattle.std.specs.Prelude.{◌≡◌, ℕ, ◌<◌, Bool, true, false, cond, ◌||◌, List, [], ◌∷◌, map, length, get_or, Some, None, filter, Option, slice_index_or}
 use Rattle.std.specs.declared.cmp.Ordering.TheVariants.{Less}
 use Rattle.facet.specs.Paths.{at_or_below, child, order}
-use Rattle.std.specs.List.{AllByRecursion as All}
+use Rattle.std.specs.List.{AllByRecursion}
 use Rattle.std.specs.Str.{bytes_eq}
 use Rattle.collector.specs.Contents.{Named, FacetField}
 use Rattle.collector.specs.Meaning.{Meaning, Collected, joined}
@@ -54,7 +54,7 @@ Ascending (f ∷ g ∷ fs) = (order f g ≡ Less) × Ascending (g ∷ fs)
 -- entry exactly where that is above 0, and no others
 pub record Counted (field : List ℕ) (requests : List (List ℕ)) (ds : List Collected) (es : List (List ℕ × ℕ)) : Type 0 where
   pub counts : (c : List ℕ) → requested_child requests c ≡ true → count_of es c ≡ documents_at field ds c
-  pub entries : All (λ (e : List ℕ × ℕ). (requested_child requests e.0 ≡ true) × (0 < e.1)) es
+  pub entries : AllByRecursion (λ (e : List ℕ × ℕ). (requested_child requests e.0 ≡ true) × (0 < e.1)) es
   pub ascending : Ascending (map (λ (e : List ℕ × ℕ). e.0) es)
 
 -- a collector that counts facets: of which field, at the children of which facets, and how its values are read
@@ -66,4 +66,4 @@ pub record Faceted (W : Type 0) : Type 0 where
 -- whatever documents it collects, of segments that it accepts, their entries are what it holds
 abbrev pub CountsFacets : {W : Type 0} → Meaning W → Faceted W → Type 0
 CountsFacets m f =
-    (ds : List Collected) → All (λ (d : Collected). m.refusal d.segment ≡ None) ds → Counted f.field f.requests ds (f.entries (joined m ds))
+    (ds : List Collected) → AllByRecursion (λ (d : Collected). m.refusal d.segment ≡ None) ds → Counted f.field f.requests ds (f.entries (joined m ds))
