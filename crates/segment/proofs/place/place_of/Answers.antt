@@ -16,6 +16,9 @@ name_is (f ∷ fs) (suc k) d h = name_is fs k d (le_of_suc-le-suc h)
 whole : (xs ys : List ℕ) (k : ℕ) → length xs ≡ length ys → k ≡ length ys → take k xs ≡ take k ys → xs ≡ ys
 whole xs ys k l e p = sym (take_all k xs (omega arith)) ∙ p ∙ take_all k ys (omega arith)
 
+as_long : (xs ys : List ℕ) → xs ≡ ys → length xs ≡ length ys
+as_long xs ys e = ap (λ (zs : List ℕ). length zs) e
+
 differ : (xs ys : List ℕ) → (xs ≡ ys → ⊥) → true ≡ not (bytes_eq xs ys)
 differ xs ys n = cut (bytes_eq xs ys) refl
   where
@@ -35,7 +38,7 @@ fields-preserved c =
           (λ e. let p = sym (name_is c.args.fields.now i _ h) ∙ e in
           elim c.if-field-name.branch [
             | then-field-name+else-k-name+then-field-k w ↦ w.if-field-k.true (ap (λ (xs : List ℕ). get_or xs w.bytes.k 0) p)
-            | else-field-name w ↦ w.if-field-name.false (ap (λ (xs : List ℕ). length xs) p)
+            | else-field-name w ↦ omega (arith, as_long _ _ p)
           ])),
     )
 
@@ -43,5 +46,5 @@ pub returns-then-k-name : goal.returns-then-k-name
 returns-then-k-name c =
     let i = c.fields.i in
     let h : i < length c.args.fields.now = omega arith in
-    let e = name_is c.args.fields.now i _ h ∙ whole _ _ c.bytes.k c.if-field-name.true c.if-k-name.true c.bytes.invariant.1 in
+    let e = name_is c.args.fields.now i _ h ∙ whole _ _ c.bytes.k (omega arith) (omega arith) c.bytes.invariant.1 in
     sym (c.fields.invariant.1 ∙ at_place _ i _ false h (sym (ap not ((bytes_eq-Decides _ _).1 e))))
