@@ -1,21 +1,21 @@
 -- What is counted by facet is the number of documents. Assumes nothing.
-use Rattle.std.proofs.Common.{◌≡◌, ℕ, suc, ◌+◌, ◌<◌, Bool, true, false, cond, ◌⊎◌, List, [], ◌∷◌, map, length, filter, Less, sym, refl, ap, ◌∙◌, subst, inl, inr, ⊎_elim, arith}
-use Rattle.collector.specs.Facets.{requested_child, count_of, holds, holds_at, documents_at, Counted, CountsFacets, field_named, terms_in}
+use Rattle.std.proofs.Common.{◌≡◌, ℕ, ◌+◌, ◌<◌, Bool, true, false, cond, List, [], ◌∷◌, length, filter, Less, sym, refl, ap, ◌∙◌, subst, ⊎_elim, arith}
+use Rattle.collector.specs.Facets.{requested_child, count_of, holds_at, documents_at, CountsFacets, field_named, terms_in}
 use Rattle.collector.specs.Meaning.{Laws, Collected, joined, worth_of}
 use Rattle.facet.specs.Paths.{order}
 use Rattle.std.proofs.lemmas.Slice.Eq.{bytes_eq-Decides}
 use Rattle.std.proofs.lemmas.Bool.{cases_Bool}
 use Rattle.std.specs.List.Sorted.{IsStrictlySortedBy}
-use Rattle.std.specs.List.{AllByRecursion as All}
+use Rattle.std.specs.List.{AllByRecursion}
 use Rattle.std.specs.Str.{bytes_eq}
-use Rattle.facet_collector.specs.Children.{requestable, children, member, ones}
+use Rattle.facet_collector.specs.Children.{requestable, children, member}
 use Rattle.facet_collector.specs.Counting.{facet_m, faceted}
-use Rattle.facet_collector.specs.Entries.{sums, sound}
+use Rattle.facet_collector.specs.Entries.{sound}
 use Rattle.facet_collector.proofs.Sets.{children_climb, member_child, member_holds, count_ones, ones_sound}
 use Rattle.facet_collector.proofs.Sums.{Rises, Positive, Before, is_false, order_self, sums_sound, sums_assoc, sums_comm, sums_neutral, sums_fits, count_sums, from_sound, at_head, sound_ascending}
 
 -- each entry has its own count
-own_counts : (es : List (List ℕ × ℕ)) → Rises es → All (λ (e : List ℕ × ℕ). count_of es e.0 ≡ e.1) es
+own_counts : (es : List (List ℕ × ℕ)) → Rises es → AllByRecursion (λ (e : List ℕ × ℕ). count_of es e.0 ≡ e.1) es
 unfolding IsStrictlySortedBy
 own_counts [] r = tt
 own_counts (x ∷ es) r = (at_head x es, later es r.0 (own_counts es r.1))
@@ -26,7 +26,7 @@ own_counts (x ∷ es) r = (at_head x es, later es r.0 (own_counts es r.1))
         less_not : order x.0 x.0 ≡ Less → ⊥
         less_not l = let e = order_self x.0 in let z : ◌≡◌ {A = ℕ} 0 1 = cc in omega arith
 
-    later : (fs : List (List ℕ × ℕ)) → Before x.0 fs → All (λ (e : List ℕ × ℕ). count_of es e.0 ≡ e.1) fs → All (λ (e : List ℕ × ℕ). count_of (x ∷ es) e.0 ≡ e.1) fs
+    later : (fs : List (List ℕ × ℕ)) → Before x.0 fs → AllByRecursion (λ (e : List ℕ × ℕ). count_of es e.0 ≡ e.1) fs → AllByRecursion (λ (e : List ℕ × ℕ). count_of (x ∷ es) e.0 ≡ e.1) fs
     later [] a h = tt
     later (f ∷ fs) a h = (skip f.0 x.1 (count_of es f.0) a.0 ∙ h.0, later fs a.1 h.1)
 
@@ -74,12 +74,12 @@ module _ (field : List ℕ) (rs : List (List ℕ)) where
       (cases_Bool (member (children rs (terms d)) q))
 
   -- an entry has its count
-  entries : (ds : List Collected) → All (λ (e : List ℕ × ℕ). (requested_child rs e.0 ≡ true) × (0 < e.1)) (joined (facet_m field rs) ds)
+  entries : (ds : List Collected) → AllByRecursion (λ (e : List ℕ × ℕ). (requested_child rs e.0 ≡ true) × (0 < e.1)) (joined (facet_m field rs) ds)
   entries ds =
       let (r, p) = from_sound (joined (facet_m field rs) ds) (joined_sound ds) in
       go (joined (facet_m field rs) ds) (own_counts (joined (facet_m field rs) ds) r) p
     where
-      go : (es : List (List ℕ × ℕ)) → All (λ (e : List ℕ × ℕ). count_of (joined (facet_m field rs) ds) e.0 ≡ e.1) es → Positive es → All (λ (e : List ℕ × ℕ). (requested_child rs e.0 ≡ true) × (0 < e.1)) es
+      go : (es : List (List ℕ × ℕ)) → AllByRecursion (λ (e : List ℕ × ℕ). count_of (joined (facet_m field rs) ds) e.0 ≡ e.1) es → Positive es → AllByRecursion (λ (e : List ℕ × ℕ). (requested_child rs e.0 ≡ true) × (0 < e.1)) es
       go [] h p = tt
       go (e ∷ es) h p = ((count_child ds e.0 (let c = h.0 in let z = p.0 in omega arith), p.0), go es h.1 p.1)
 

@@ -1,13 +1,13 @@
 -- The requested facet above a term is the last that does not stand behind it. Assumes nothing.
-use Rattle.std.proofs.Common.{◌≡◌, ℕ, zero, suc, ◌+◌, ◌-◌, ◌<◌, ◌≤◌, Bool, true, false, cond, not, ◌&&◌, T, ◌⊎◌, List, [], ◌∷◌, length, get_or, Some, None, Option, Ordering, Less, Equal, Greater, sym, refl, ap, ◌∙◌, subst, inl, inr, ⊎_elim, arith}
+use Rattle.std.proofs.Common.{◌≡◌, ℕ, zero, suc, ◌+◌, ◌-◌, ◌<◌, ◌≤◌, Bool, true, false, cond, List, [], ◌∷◌, length, get_or, Some, None, Less, Greater, sym, refl, ap, subst, ⊎_elim, arith}
 use Rattle.facet.proofs.Paths.{prefix}
 use Rattle.facet.specs.Paths.{above, order}
-use Rattle.std.proofs.lemmas.Map.Invariant.{sorted-from-test}
 use Rattle.std.proofs.lemmas.Map.Keys.{Less-from_sorted}
 use Rattle.std.proofs.lemmas.Bool.{and_parts, both_ways, cases_lt, cases_eq, not-true}
 use Rattle.std.specs.List.{list_all}
-use Rattle.std.specs.Map.Invariant.{is-strictly-sorted-by}
+use Rattle.facet_collector.specs.Ascents.{is_strictly_sorted_by}
 use Rattle.facet_collector.specs.Children.{apart, requestable, request_of}
+use Rattle.facet_collector.proofs.Ascents.{sorted-from_test}
 use Rattle.facet_collector.proofs.Lasts.{never_less}
 use Rattle.facet_collector.proofs.Paths.{one_above, at_or_below_cases, less_greater}
 use Rattle.facet_collector.proofs.Sets.{order_trans}
@@ -21,11 +21,11 @@ pass_at p (x ∷ xs) (suc i) d h l = pass_at p xs i d (and_parts (p x) (list_all
 module _ (rs : List (List ℕ)) (ok : requestable rs ≡ true) where
   pub requests_ascend : (i j : ℕ) → i < j → j < length rs → order (get_or rs i []) (get_or rs j []) ≡ Less
   requests_ascend i j l h =
-      Less-from_sorted order rs i j [] (sorted-from-test order rs (subst T (sym (and_parts (is-strictly-sorted-by order rs) _ ok).0) tt)) l h
+      Less-from_sorted order rs i j [] (sorted-from_test order rs (and_parts (is_strictly_sorted_by order rs) _ ok).0) l h
 
   pub requests_apart : (i j : ℕ) → i < length rs → j < length rs → apart (get_or rs i []) (get_or rs j []) ≡ true
   requests_apart i j l h =
-      pass_at (apart (get_or rs i [])) rs j [] (pass_at (λ r. list_all (apart r) rs) rs i [] (and_parts (is-strictly-sorted-by order rs) _ ok).1 l) h
+      pass_at (apart (get_or rs i [])) rs j [] (pass_at (λ r. list_all (apart r) rs) rs i [] (and_parts (is_strictly_sorted_by order rs) _ ok).1 l) h
 
   -- the one that is above a term is the one meant
   pub request_found : (t : List ℕ) (j : ℕ) → j < length rs → above (get_or rs j []) t ≡ true → request_of rs t ≡ Some (get_or rs j [])

@@ -1,20 +1,19 @@
 -- Ascending children, and one more at the end. Assumes nothing.
-use Rattle.std.proofs.Common.{◌≡◌, ℕ, zero, suc, ◌+◌, ◌<◌, ◌≤◌, Bool, true, false, cond, ◌||◌, List, [], ◌∷◌, ◌++◌, length, get_or, take, Ordering, Less, Equal, Greater, sym, refl, ap, ◌∙◌, subst, ⊎_elim, arith, length-append}
+use Rattle.std.proofs.Common.{◌≡◌, ℕ, zero, suc, ◌+◌, ◌<◌, ◌≤◌, Bool, true, false, cond, ◌||◌, List, [], ◌∷◌, ◌++◌, length, get_or, take, Less, Greater, sym, refl, ap, ◌∙◌, subst, ⊎_elim, arith}
 use Rattle.facet.specs.Paths.{order}
 use Rattle.std.proofs.lemmas.Slice.Eq.{bytes_eq-Decides}
 use Rattle.std.proofs.lemmas.List.{take_more}
 use Rattle.std.proofs.lemmas.Bool.{or_cases, true≢false}
-use Rattle.std.specs.Cmp.{nat_cmp_total}
-use Rattle.std.specs.Cmp.Lexicographic.{lexical}
-use Rattle.std.specs.Ordering.{ordering_reverse, match_ordering as by_order}
-use Rattle.std.specs.List.{AllByRecursion as All}
+use Rattle.std.specs.Cmp.Lexicographic.{nat_list_cmp_total}
+use Rattle.std.specs.Ordering.{ordering_reverse}
+use Rattle.std.specs.List.{AllByRecursion}
 use Rattle.std.specs.Str.{bytes_eq}
 use Rattle.facet_collector.specs.Children.{leads, insert, insert_some, children_from, children, member, place_in, last_of}
 use Rattle.facet_collector.proofs.Sets.{Behind, Climbing, by_cases, order_trans, led}
 use Rattle.facet_collector.proofs.Sums.{is_false, order_self}
 
 pub turned : (s t : List ℕ) → order s t ≡ Less → order t s ≡ Greater
-turned s t h = (lexical nat_cmp_total).flip t s ∙ ap ordering_reverse h
+turned s t h = nat_list_cmp_total.antisymm t s ∙ ap ordering_reverse h
 
 pub never_less : {B : Type 0} (s : List ℕ) → order s s ≡ Less → B
 never_less s h = let e = order_self s in let z : ◌≡◌ {A = ℕ} 0 1 = cc in absurd (omega arith)
@@ -23,7 +22,7 @@ differs : (s t : List ℕ) → order s t ≡ Less → bytes_eq s t ≡ false
 differs s t h = is_false _ (λ b. never_less s (subst (λ (x : List ℕ). order s x ≡ Less) (sym ((bytes_eq-Decides s t).0 b)) h))
 
 abbrev pub Front : List ℕ → List (List ℕ) → Type 0
-Front c ds = All (λ (d : List ℕ). order d c ≡ Less) ds
+Front c ds = AllByRecursion (λ (d : List ℕ). order d c ≡ Less) ds
 
 -- ---- the last of ascending ones
 

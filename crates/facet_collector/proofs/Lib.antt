@@ -1,3 +1,4 @@
+pub mod Ascents
 pub mod Paths
 pub mod Sums
 pub mod Sets

@@ -1,17 +1,16 @@
 -- Which child of a requested facet a term leads to. Assumes nothing.
-use Rattle.std.proofs.Common.{◌≡◌, ℕ, suc, ◌+◌, ◌<◌, ◌≤◌, Bool, true, false, cond, not, ◌&&◌, ◌||◌, eqb, ◌⊎◌, List, [], ◌∷◌, length, Some, None, Option, Ordering, Less, Equal, Greater, sym, refl, ap, ◌∙◌, subst, inl, inr, ⊎_elim, arith}
+use Rattle.std.proofs.Common.{◌≡◌, ℕ, suc, ◌<◌, Bool, true, false, cond, not, ◌||◌, eqb, ◌⊎◌, List, [], ◌∷◌, length, Some, None, Option, Ordering, Less, Equal, Greater, sym, refl, ap, ◌∙◌, subst, inl, inr, ⊎_elim, arith}
 use Rattle.collector.specs.Facets.{requested_child}
 use Rattle.facet.proofs.Paths.{prefix, way, way_front, on_the_way, no_way_empty}
 use Rattle.facet.specs.Laws.{OnTheWay}
 use Rattle.facet.specs.Paths.{above, at_or_below, child, depth, order}
 use Rattle.std.proofs.lemmas.Slice.Eq.{bytes_eq-Decides}
 use Rattle.std.proofs.lemmas.Bool.{and_parts, and_from, or_cases, or_left, or_right, not-true, both_ways, true≢false}
-use Rattle.std.specs.Cmp.{nat_cmp_total}
-use Rattle.std.specs.Cmp.Lexicographic.{lexical}
+use Rattle.std.specs.Cmp.Lexicographic.{nat_list_cmp_total}
 use Rattle.std.specs.Ordering.{ordering_reverse}
 use Rattle.std.specs.List.{list_all}
-use Rattle.std.specs.Map.Invariant.{is-strictly-sorted-by}
 use Rattle.std.specs.Str.{bytes_eq}
+use Rattle.facet_collector.specs.Ascents.{is_strictly_sorted_by}
 use Rattle.facet_collector.specs.Children.{apart, requestable, request_of, child_toward, towards, leads}
 
 -- ---- above and at or below
@@ -38,7 +37,7 @@ pub equal_greater : {B : Type 0} {o : Ordering} → o ≡ Equal → o ≡ Greate
 equal_greater p q = let z : ◌≡◌ {A = ℕ} 0 1 = cc in absurd (omega arith)
 
 pub flipped : (s t : List ℕ) → order s t ≡ Greater → order t s ≡ Less
-flipped s t h = (lexical nat_cmp_total).flip t s ∙ ap ordering_reverse h
+flipped s t h = nat_list_cmp_total.antisymm t s ∙ ap ordering_reverse h
 
 -- x not behind y, and both above f: y is below x, or they are the same
 module _ (f x y : List ℕ) (u : above x f ≡ true) (v : above y f ≡ true) (n : apart x y ≡ true) where
@@ -131,4 +130,4 @@ module _ (t c : List ℕ) (l : at_or_below t c ≡ true) where
           ih (⊎_elim (λ (m : child r c ≡ true). absurd (both_ways (above r t) h (below_through r t c (child_above r c m) l))) (λ m. m) (or_cases (child r c) (requested_child rs c) m))
 
 pub leads_is : (rs : List (List ℕ)) (t c : List ℕ) → requestable rs ≡ true → requested_child rs c ≡ true → at_or_below t c ≡ true → leads rs t ≡ c
-leads_is rs t c n k l = leads_by t c l rs rs k (and_parts (is-strictly-sorted-by order rs) _ n).1 k
+leads_is rs t c n k l = leads_by t c l rs rs k (and_parts (is_strictly_sorted_by order rs) _ n).1 k

@@ -1,5 +1,5 @@
 -- The requested facet above a term, sought by a cursor, and where its child ends. Assumes nothing.
-use Rattle.std.proofs.Common.{◌≡◌, ℕ, ◌+◌, ◌-◌, ◌<◌, ◌≤◌, Bool, true, false, List, [], length, get_or, take, drop, Some, Ordering, Less, Equal, Greater, sym, refl, ap, ◌∙◌, subst, arith, length-drop, length-take}
+use Rattle.std.proofs.Common.{◌≡◌, ℕ, ◌+◌, ◌-◌, ◌<◌, ◌≤◌, true, false, List, [], length, get_or, take, drop, Some, Ordering, Less, Equal, Greater, sym, refl, ap, ◌∙◌, subst, arith, length-drop, length-take}
 use Rattle.facet.proofs.Paths.{way_front, length_piece}
 use Rattle.facet.specs.Facets.{encoded_of}
 use Rattle.facet.specs.Paths.{above, child_offset, depth, first_step}

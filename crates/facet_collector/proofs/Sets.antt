@@ -1,16 +1,15 @@
 -- Children in order, each once. Assumes nothing.
-use Rattle.std.proofs.Common.{◌≡◌, ℕ, zero, suc, ◌+◌, ◌<◌, ◌≤◌, Bool, true, false, cond, not, ◌&&◌, ◌||◌, ltb, ◌⊎◌, List, [], ◌∷◌, ◌++◌, map, length, get_or, Ordering, Less, Equal, Greater, sym, refl, ap, ◌∙◌, subst, inl, inr, ⊎_elim, arith}
+use Rattle.std.proofs.Common.{◌≡◌, ℕ, ◌<◌, Bool, true, false, cond, ◌||◌, ltb, List, [], ◌∷◌, length, Ordering, Less, Equal, Greater, sym, refl, ap, ◌∙◌, subst, ⊎_elim, arith}
 use Rattle.collector.specs.Facets.{requested_child, holds, count_of}
 use Rattle.facet.specs.Paths.{at_or_below, child, order}
 use Rattle.std.proofs.lemmas.Slice.Eq.{bytes_eq-Decides}
 use Rattle.std.proofs.lemmas.Map.Lookups.{exact_bytes}
-use Rattle.std.proofs.lemmas.Bool.{and_parts, and_from, or_cases, or_left, or_right, both_ways, true≢false}
-use Rattle.std.specs.Cmp.{nat_cmp_total}
-use Rattle.std.specs.Cmp.Lexicographic.{lexical}
+use Rattle.std.proofs.lemmas.Bool.{and_from, or_cases, both_ways, true≢false}
+use Rattle.std.specs.Cmp.Lexicographic.{nat_list_cmp_total}
 use Rattle.std.specs.Ordering.{is_lt, match_ordering as by_order}
-use Rattle.std.specs.List.{list_all, AllByRecursion as All}
-use Rattle.std.specs.Map.Invariant.{is-strictly-sorted-by}
+use Rattle.std.specs.List.{list_all, AllByRecursion}
 use Rattle.std.specs.Str.{bytes_eq}
+use Rattle.facet_collector.specs.Ascents.{is_strictly_sorted_by}
 use Rattle.facet_collector.specs.Children.{requestable, leads, insert, insert_some, children_from, children, member, ones}
 use Rattle.facet_collector.specs.Entries.{sound}
 use Rattle.facet_collector.proofs.Paths.{leads_sound, leads_is, flipped}
@@ -21,12 +20,12 @@ by_cases P Equal a b c f g h = g refl
 by_cases P Greater a b c f g h = h refl
 
 pub order_trans : (s t u : List ℕ) → order s t ≡ Less → order t u ≡ Less → order s u ≡ Less
-order_trans s t u = (lexical nat_cmp_total).trans s t u
+order_trans s t u = nat_list_cmp_total.trans s t u
 
 -- ---- ascending
 
 abbrev pub Behind : List ℕ → List (List ℕ) → Type 0
-Behind c ds = All (λ (d : List ℕ). order c d ≡ Less) ds
+Behind c ds = AllByRecursion (λ (d : List ℕ). order c d ≡ Less) ds
 
 abbrev pub Climbing : List (List ℕ) → Type 0
 Climbing [] = Unit {0}
@@ -177,7 +176,7 @@ ones_sound cs r = and_from _ _ (ascends cs r) (positive cs)
     above_first c [] a = refl
     above_first c (d ∷ ds) a = and_from _ _ (ap is_lt a.0) (above_first c ds a.1)
 
-    ascends : (cs : List (List ℕ)) → Climbing cs → is-strictly-sorted-by (λ (x y : List ℕ × ℕ). order x.0 y.0) (ones cs) ≡ true
+    ascends : (cs : List (List ℕ)) → Climbing cs → is_strictly_sorted_by (λ (x y : List ℕ × ℕ). order x.0 y.0) (ones cs) ≡ true
     ascends [] r = refl
     ascends (c ∷ cs) r = and_from _ _ (above_first c cs r.0) (ascends cs r.1)
 

@@ -1,15 +1,15 @@
 -- Terms collapsed to children, one by one. Assumes nothing.
-use Rattle.std.proofs.Common.{◌≡◌, ℕ, zero, suc, ◌+◌, ◌-◌, ◌<◌, ◌≤◌, Bool, true, false, cond, ◌⊎◌, List, [], ◌∷◌, ◌++◌, length, get_or, take, drop, set, Some, None, Option, Ordering, Less, Equal, Greater, sym, refl, ap, ◌∙◌, subst, inl, inr, ⊎_elim, append_assoc, append-nil, arith, length-append, below_more}
+use Rattle.std.proofs.Common.{◌≡◌, ℕ, zero, suc, ◌+◌, ◌-◌, ◌<◌, ◌≤◌, true, false, List, [], ◌∷◌, ◌++◌, length, get_or, take, drop, set, Some, None, Option, Ordering, Less, Equal, Greater, sym, refl, ap, ◌∙◌, subst, ⊎_elim, append_assoc, append-nil, arith, length-append, below_more}
 use Rattle.facet.proofs.Paths.{prefix}
 use Rattle.facet.specs.Paths.{above, at_or_below, depth, order}
 use Rattle.std.proofs.lemmas.List.{nil_from_length, get_or-set_same, get_or-set_other, get_or-take, length-set, length-take-le, take_all, take-append-drop}
 use Rattle.std.proofs.lemmas.Slice.Eq.{bytes_eq-Decides}
 use Rattle.std.proofs.lemmas.Map.Lookups.{exact_bytes}
-use Rattle.std.proofs.lemmas.Bool.{both_ways, cases_Bool, cases_eq, cases_lt, or_right}
+use Rattle.std.proofs.lemmas.Bool.{both_ways, cases_Bool, cases_lt, or_right}
 use Rattle.std.specs.Str.{bytes_eq}
-use Rattle.facet_collector.specs.Requests.{Sought, Walked}
+use Rattle.facet_collector.specs.Requests.{Sought, Walked, Mapping}
 use Rattle.facet_collector.specs.Children.{requestable, request_of, child_toward, towards, leads, insert_some, children, member, first_below, nothing, collapsed_to, collapsed_by, collapsed, place_in, last_of, slot_of}
-use Rattle.facet_collector.proofs.Lasts.{turned, never_less, Front, member_last, some_there, front_all, some_last, some_new, some_none, last_new, place_last, place_new, place_kept, children_more, children_longer, front_not_member, led_place, led_at}
+use Rattle.facet_collector.proofs.Lasts.{never_less, Front, member_last, some_there, front_all, some_last, some_new, some_none, last_new, place_last, place_new, place_kept, children_more, children_longer, front_not_member, led_place, led_at}
 use Rattle.facet_collector.proofs.Paths.{above_chain, at_or_below_cases, less_greater, equal_greater, flipped, leads_sound, leads_is}
 use Rattle.facet_collector.proofs.Sets.{Climbing, led, no_empty, order_trans, children_climb, member_children}
 use Rattle.facet_collector.proofs.Sums.{is_false, order_self}
@@ -275,3 +275,9 @@ module _ (rs ts : List (List ℕ)) (i : ℕ) (l : i < length ts) (small : length
         slots_full = length-set slots i s ∙ sf;
         mapping_full = length-set mapping i m ∙ mf;
       }
+
+-- all terms are done
+pub mapping_filled : (rs ts : List (List ℕ)) {i n : ℕ} (mapping : List (ℕ × ℕ)) (slots : List ℕ) → i ≤ length ts → length ts ≤ i → n ≡ length (children rs (take i ts)) → n ≤ 128 → Filled rs ts i mapping slots → Mapping rs ts mapping slots
+mapping_filled rs ts {i} mapping slots h k e few f =
+    let z = ap (λ us. length (children rs us)) (take_all i ts k) in
+    record { few = omega arith; slotted = λ o l. f.slotted o (omega arith); mapped = λ o l. f.mapped o (omega arith) }

@@ -1,21 +1,20 @@
 -- The laws of counts by facet.
-use Rattle.std.proofs.Common.{◌≡◌, ℕ, ◌+◌, ◌<◌, ◌≤◌, Bool, true, false, cond, T, ltb, leb, List, [], ◌∷◌, map, length, Decides, Ordering, Less, Equal, Greater, sym, refl, ap, ◌∙◌, arith}
-use Rattle.std.specs.Cmp.{nat_cmp_total}
-use Rattle.std.specs.Cmp.Lexicographic.{lexical}
+use Rattle.std.proofs.Common.{◌≡◌, ℕ, ◌+◌, ◌<◌, ◌≤◌, Bool, true, false, cond, ltb, leb, List, [], ◌∷◌, map, length, Decides, Ordering, Less, Equal, Greater, sym, refl, ap, ◌∙◌, arith}
+use Rattle.std.specs.Cmp.Lexicographic.{nat_list_cmp_total}
 use Rattle.std.specs.Ordering.{is_lt, is_gt, ordering_reverse, match_ordering as by_order}
 use Rattle.std.specs.List.Sorted.{IsStrictlySortedBy}
-use Rattle.std.specs.List.{list_all, AllByRecursion as All}
-use Rattle.std.specs.Map.Invariant.{is-strictly-sorted-by}
+use Rattle.std.specs.List.{list_all, AllByRecursion}
 use Rattle.std.specs.Str.{bytes_eq}
 use Rattle.std.proofs.ByRecursion.{All-weaker, Decides-by_and}
 use Rattle.std.proofs.lemmas.Slice.Eq.{bytes_eq-Decides}
-use Rattle.std.proofs.lemmas.Map.Invariant.{sorted-from-test, test-from-sorted}
 use Rattle.std.proofs.lemmas.Map.Lookups.{exact_bytes}
 use Rattle.std.proofs.lemmas.Bool.{and_parts, and_from, leb-true, le-leb, ltb-true, lt-ltb, true≢false}
 use Rattle.facet.specs.Paths.{order}
 use Rattle.collector.specs.Facets.{count_of, Ascending}
+use Rattle.facet_collector.specs.Ascents.{is_strictly_sorted_by}
 use Rattle.facet_collector.specs.Entries.{put, sums, sound, fits}
 use Rattle.facet_collector.specs.Sums.{SumLaws}
+use Rattle.facet_collector.proofs.Ascents.{sorted-from_test, test-from_sorted}
 
 -- ---- the order
 
@@ -24,7 +23,7 @@ is_false true n = absurd (n refl)
 is_false false n = refl
 
 pub order_self : (f : List ℕ) → order f f ≡ Equal
-order_self f = self_is (order f f) ((lexical nat_cmp_total).flip f f)
+order_self f = self_is (order f f) (nat_list_cmp_total.antisymm f f)
   where
     self_is : (o : Ordering) → o ≡ ordering_reverse o → o ≡ Equal
     self_is Less e = absurd (true≢false (ap is_lt e))
@@ -32,7 +31,7 @@ order_self f = self_is (order f f) ((lexical nat_cmp_total).flip f f)
     self_is Greater e = absurd (true≢false (ap is_gt e))
 
 pub order_turn : (f g : List ℕ) → order f g ≡ Greater → order g f ≡ Less
-order_turn f g h = (lexical nat_cmp_total).flip g f ∙ ap ordering_reverse h
+order_turn f g h = nat_list_cmp_total.antisymm g f ∙ ap ordering_reverse h
 
 -- what stands before another is not the same
 pub apart : (f g : List ℕ) → order f g ≡ Less → bytes_eq g f ≡ false
@@ -56,24 +55,16 @@ Rises es = IsStrictlySortedBy ahead es
 
 -- f stands before all entries
 abbrev pub Before : List ℕ → List (List ℕ × ℕ) → Type 0
-Before f es = All (λ e. order f e.0 ≡ Less) es
+Before f es = AllByRecursion (λ e. order f e.0 ≡ Less) es
 
 abbrev pub Positive : List (List ℕ × ℕ) → Type 0
-Positive es = All (λ e. 0 < e.1) es
+Positive es = AllByRecursion (λ e. 0 < e.1) es
 
 abbrev pub Small : List (List ℕ × ℕ) → Type 0
-Small es = All (λ e. e.1 ≤ 4294967295) es
+Small es = AllByRecursion (λ e. e.1 ≤ 4294967295) es
 
-passes : {X : Type 0} (p : X → Bool) (P : X → Type 0) → ((x : X) → Decides (p x) (P x)) → (xs : List X) → Decides (list_all p xs) (All P xs)
+passes : {X : Type 0} (p : X → Bool) (P : X → Type 0) → ((x : X) → Decides (p x) (P x)) → (xs : List X) → Decides (list_all p xs) (AllByRecursion P xs)
 passes p P each xs = Decides-by_and p P (list_all p) each refl (λ _ _. refl) xs
-
-from_t : (b : Bool) → T b → b ≡ true
-from_t true h = refl
-from_t false h = absurd h
-
-to_t : (b : Bool) → b ≡ true → T b
-to_t true h = tt
-to_t false h = absurd (true≢false (sym h))
 
 positive : (es : List (List ℕ × ℕ)) → Decides (list_all (λ e. ltb 0 e.1) es) (Positive es)
 positive es = passes (λ e. ltb 0 e.1) (λ e. 0 < e.1) (λ e. (ltb-true 0 e.1, lt-ltb 0 e.1)) es
@@ -83,12 +74,12 @@ small es = passes (λ e. leb e.1 4294967295) (λ e. e.1 ≤ 4294967295) (λ e. (
 
 pub from_sound : (es : List (List ℕ × ℕ)) → sound es ≡ true → Rises es × Positive es
 from_sound es h =
-    let a = and_parts (is-strictly-sorted-by ahead es) (list_all (λ e. ltb 0 e.1) es) h in
-    (sorted-from-test ahead es (to_t (is-strictly-sorted-by ahead es) a.0), (positive es).0 a.1)
+    let a = and_parts (is_strictly_sorted_by ahead es) (list_all (λ e. ltb 0 e.1) es) h in
+    (sorted-from_test ahead es a.0, (positive es).0 a.1)
 
 pub to_sound : (es : List (List ℕ × ℕ)) → Rises es → Positive es → sound es ≡ true
 to_sound es r p =
-    and_from (is-strictly-sorted-by ahead es) (list_all (λ e. ltb 0 e.1) es) (from_t (is-strictly-sorted-by ahead es) (test-from-sorted ahead es r)) ((positive es).1 p)
+    and_from (is_strictly_sorted_by ahead es) (list_all (λ e. ltb 0 e.1) es) (test-from_sorted ahead es r) ((positive es).1 p)
 
 pub from_fits : (es : List (List ℕ × ℕ)) → fits es ≡ true → (length es ≤ 128) × Small es
 from_fits es h =
@@ -101,7 +92,7 @@ to_fits es l s = and_from (leb (length es) 128) (list_all (λ e. leb e.1 4294967
 -- ---- what stays sound
 
 pub before_further : (f g : List ℕ) (es : List (List ℕ × ℕ)) → order f g ≡ Less → Before g es → Before f es
-before_further f g es h = All-weaker (λ e. order g e.0 ≡ Less) (λ e. order f e.0 ≡ Less) (λ e. (lexical nat_cmp_total).trans f g e.0 h) es
+before_further f g es h = All-weaker (λ e. order g e.0 ≡ Less) (λ e. order f e.0 ≡ Less) (λ e. nat_list_cmp_total.trans f g e.0 h) es
 
 put_before : (g f : List ℕ) (n : ℕ) (es : List (List ℕ × ℕ)) → order g f ≡ Less → Before g es → Before g (put f n es)
 put_before g f n [] h a = (h, tt)

@@ -1,6 +1,6 @@
 -- One step of the walk over the terms, by where the child of the next term ends. Assumes nothing.
-use Rattle.std.proofs.Common.{◌≡◌, ℕ, suc, ◌+◌, ◌-◌, ◌<◌, ◌≤◌, true, List, [], length, get_or, take, Some, None, sym, refl, ap, ◌∙◌, subst, arith}
-use Rattle.facet_collector.specs.Children.{requestable, leads, children, collapsed, first_below, place_in, slot_of}
+use Rattle.std.proofs.Common.{◌≡◌, ℕ, ◌+◌, ◌-◌, ◌<◌, ◌≤◌, true, List, [], length, get_or, take, Some, None, sym, ap, ◌∙◌, subst, arith}
+use Rattle.facet_collector.specs.Children.{requestable, leads, children, collapsed, first_below}
 use Rattle.facet_collector.specs.Requests.{Sought, Ends, Walked, Told}
 use Rattle.facet_collector.proofs.Steps.{Ascends, slot_some, collapsed_some, walk_none, walk_same, same_place, walk_new, new_place, too_many}
 

@@ -1,10 +1,10 @@
 -- The children of requested facets that terms lead to. Assumes nothing.
-use Rattle.std.specs.Prelude.{ℕ, suc, ◌+◌, Bool, true, false, cond, not, ◌&&◌, ◌||◌, List, [], ◌∷◌, map, length, take, drop, Some, None, Option, slice_index_or}
+use Rattle.std.specs.Prelude.{ℕ, suc, ◌+◌, Bool, false, cond, not, ◌&&◌, ◌||◌, List, [], ◌∷◌, map, length, take, drop, Some, None, Option, slice_index_or}
 use Rattle.facet.specs.Paths.{above, at_or_below, child_offset, depth, first_step, order}
 use Rattle.std.specs.List.{list_all}
-use Rattle.std.specs.Map.Invariant.{is-strictly-sorted-by}
 use Rattle.std.specs.Ordering.{match_ordering as by_order}
 use Rattle.std.specs.Str.{bytes_eq}
+use Rattle.facet_collector.specs.Ascents.{is_strictly_sorted_by}
 
 -- ---- requested facets
 
@@ -14,7 +14,7 @@ apart r q = not (above r q) && not (above q r)
 
 -- requested facets: ascending, and none above another
 abbrev pub requestable : List (List ℕ) → Bool
-requestable rs = is-strictly-sorted-by order rs && list_all (λ r. list_all (apart r) rs) rs
+requestable rs = is_strictly_sorted_by order rs && list_all (λ r. list_all (apart r) rs) rs
 
 -- the requested facet that is above t, if there is one
 abbrev pub request_of : List (List ℕ) → List ℕ → Option (List ℕ)

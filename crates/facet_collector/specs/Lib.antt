@@ -1,3 +1,4 @@
+pub mod Ascents
 pub mod Entries
 pub mod Sums
 pub mod Children
