@@ -20,13 +20,13 @@ module _ {K : Type 0} (c : K → K → Ordering) where
   all_pass x [] h = refl
   all_pass x (y ∷ ys) h = and_from (is_lt (c x y)) (list_all (λ y. is_lt (c x y)) ys) (ap is_lt h.0) (all_pass x ys h.1)
 
-  pub sorted-from_test : (xs : List K) → is_strictly_sorted_by c xs ≡ true → IsStrictlySortedBy c xs
+  pub sorted_from_test : (xs : List K) → is_strictly_sorted_by c xs ≡ true → IsStrictlySortedBy c xs
   unfolding IsStrictlySortedBy
-  sorted-from_test [] h = tt
-  sorted-from_test (x ∷ xs) h =
-      let (a, b) = and_parts (list_all (λ y. is_lt (c x y)) xs) (is_strictly_sorted_by c xs) h in (all_less x xs a, sorted-from_test xs b)
+  sorted_from_test [] h = tt
+  sorted_from_test (x ∷ xs) h =
+      let (a, b) = and_parts (list_all (λ y. is_lt (c x y)) xs) (is_strictly_sorted_by c xs) h in (all_less x xs a, sorted_from_test xs b)
 
-  pub test-from_sorted : (xs : List K) → IsStrictlySortedBy c xs → is_strictly_sorted_by c xs ≡ true
+  pub test_from_sorted : (xs : List K) → IsStrictlySortedBy c xs → is_strictly_sorted_by c xs ≡ true
   unfolding IsStrictlySortedBy
-  test-from_sorted [] r = refl
-  test-from_sorted (x ∷ xs) r = and_from (list_all (λ y. is_lt (c x y)) xs) (is_strictly_sorted_by c xs) (all_pass x xs r.0) (test-from_sorted xs r.1)
+  test_from_sorted [] r = refl
+  test_from_sorted (x ∷ xs) r = and_from (list_all (λ y. is_lt (c x y)) xs) (is_strictly_sorted_by c xs) (all_pass x xs r.0) (test_from_sorted xs r.1)

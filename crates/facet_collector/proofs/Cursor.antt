@@ -7,7 +7,7 @@ use Rattle.std.proofs.lemmas.Bool.{and_parts, both_ways, cases_lt, cases_eq, not
 use Rattle.std.specs.List.{list_all}
 use Rattle.facet_collector.specs.Ascents.{is_strictly_sorted_by}
 use Rattle.facet_collector.specs.Children.{apart, requestable, request_of}
-use Rattle.facet_collector.proofs.Ascents.{sorted-from_test}
+use Rattle.facet_collector.proofs.Ascents.{sorted_from_test}
 use Rattle.facet_collector.proofs.Lasts.{never_less}
 use Rattle.facet_collector.proofs.Paths.{one_above, at_or_below_cases, less_greater}
 use Rattle.facet_collector.proofs.Sets.{order_trans}
@@ -21,7 +21,7 @@ pass_at p (x ∷ xs) (suc i) d h l = pass_at p xs i d (and_parts (p x) (list_all
 module _ (rs : List (List ℕ)) (ok : requestable rs ≡ true) where
   pub requests_ascend : (i j : ℕ) → i < j → j < length rs → order (get_or rs i []) (get_or rs j []) ≡ Less
   requests_ascend i j l h =
-      Less-from_sorted order rs i j [] (sorted-from_test order rs (and_parts (is_strictly_sorted_by order rs) _ ok).0) l h
+      Less-from_sorted order rs i j [] (sorted_from_test order rs (and_parts (is_strictly_sorted_by order rs) _ ok).0) l h
 
   pub requests_apart : (i j : ℕ) → i < length rs → j < length rs → apart (get_or rs i []) (get_or rs j []) ≡ true
   requests_apart i j l h =

@@ -14,7 +14,7 @@ use Rattle.collector.specs.Facets.{count_of, Ascending}
 use Rattle.facet_collector.specs.Ascents.{is_strictly_sorted_by}
 use Rattle.facet_collector.specs.Entries.{put, sums, sound, fits}
 use Rattle.facet_collector.specs.Sums.{SumLaws}
-use Rattle.facet_collector.proofs.Ascents.{sorted-from_test, test-from_sorted}
+use Rattle.facet_collector.proofs.Ascents.{sorted_from_test, test_from_sorted}
 
 -- ---- the order
 
@@ -75,11 +75,11 @@ small es = passes (λ e. leb e.1 4294967295) (λ e. e.1 ≤ 4294967295) (λ e. (
 pub from_sound : (es : List (List ℕ × ℕ)) → sound es ≡ true → Rises es × Positive es
 from_sound es h =
     let a = and_parts (is_strictly_sorted_by ahead es) (list_all (λ e. ltb 0 e.1) es) h in
-    (sorted-from_test ahead es a.0, (positive es).0 a.1)
+    (sorted_from_test ahead es a.0, (positive es).0 a.1)
 
 pub to_sound : (es : List (List ℕ × ℕ)) → Rises es → Positive es → sound es ≡ true
 to_sound es r p =
-    and_from (is_strictly_sorted_by ahead es) (list_all (λ e. ltb 0 e.1) es) (test-from_sorted ahead es r) ((positive es).1 p)
+    and_from (is_strictly_sorted_by ahead es) (list_all (λ e. ltb 0 e.1) es) (test_from_sorted ahead es r) ((positive es).1 p)
 
 pub from_fits : (es : List (List ℕ × ℕ)) → fits es ≡ true → (length es ≤ 128) × Small es
 from_fits es h =
