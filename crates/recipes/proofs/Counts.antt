@@ -2,15 +2,15 @@
 use Rattle.std.proofs.Common.{◌≡◌, ℕ, ◌+◌, ◌<◌, ◌≤◌, Bool, true, false, cond, ◌||◌, ltb, ◌⊎◌, List, [], ◌∷◌, ◌++◌, map, length, get_or, take, drop, Ordering, Less, Equal, Greater, sym, refl, ap, ◌∙◌, subst, inl, inr, ⊎_elim, arith}
 use Rattle.facet.specs.Laws.{OnTheWay, NoWay}
 use Rattle.facet.specs.Paths.{at_or_below, child, order}
-use Rattle.std.proofs.StringKeys.Lists.{tied-text}
 use Rattle.std.proofs.ByRecursion.{All-weaker, All-map}
+use Rattle.std.proofs.lemmas.Map.Lookups.{exact_bytes}
 use Rattle.std.proofs.lemmas.Slice.Eq.{bytes_eq-Decides}
 use Rattle.std.proofs.lemmas.List.{append_assoc, take-append-drop, take_more, drop_more, at_drop_more, at_drop_all}
 use Rattle.std.proofs.lemmas.Bool.{or_cases, or_left, or_right, both_ways, cases_lt, lt-ltb, ltb-true}
 use Rattle.std.proofs.lemmas.Bool.Decides.{nat_tests}
-use Rattle.std.specs.List.{flat_map, AllByRecursion as All}
+use Rattle.std.specs.List.{flat_map, AllByRecursion}
 use Rattle.std.specs.Cmp.{nat_cmp_total}
-use Rattle.std.specs.Cmp.Lexicographic.{bytes_decides, lexical}
+use Rattle.std.specs.Cmp.Lexicographic.{lists_total}
 use Rattle.std.specs.Ordering.{is_lt, is_eq, ordering_reverse}
 use Rattle.std.specs.Str.{bytes_eq}
 use Rattle.recipes.specs.Counting.{holds, recipes_at, count_of, Ascending, Counted, member, put, Children}
@@ -36,10 +36,10 @@ some_hold f (x ∷ xs) c = holds_append (f x) (flat_map f xs) c ∙ ap (λ (t : 
 -- ---- the children in order
 
 order_same : (f g : List ℕ) → order f g ≡ Equal → f ≡ g
-order_same f g e = (bytes_decides f g).0 (sym (tied-text f g) ∙ ap is_eq e)
+order_same f g e = exact_bytes f g e
 
 order_flip : (f g : List ℕ) → order f g ≡ Greater → order g f ≡ Less
-order_flip f g e = (lexical nat_cmp_total).flip g f ∙ ap ordering_reverse e
+order_flip f g e = (lists_total nat_cmp_total).antisymm g f ∙ ap ordering_reverse e
 
 pub member_put : (f : List ℕ) (gs : List (List ℕ)) (c : List ℕ) → member (put f gs) c ≡ (bytes_eq f c || member gs c)
 member_put f [] c = refl
@@ -56,11 +56,11 @@ member_put f (g ∷ gs) c = cut (order g f) refl (member_put f gs c)
     cut Equal e h = twice (bytes_eq g c) (member gs c) ∙ ap (λ (x : List ℕ). bytes_eq x c || (bytes_eq g c || member gs c)) (order_same g f e)
     cut Greater e h = refl
 
-all_put : (P : List ℕ → Type 0) (f : List ℕ) (gs : List (List ℕ)) → P f → All P gs → All P (put f gs)
+all_put : (P : List ℕ → Type 0) (f : List ℕ) (gs : List (List ℕ)) → P f → AllByRecursion P gs → AllByRecursion P (put f gs)
 all_put P f [] p a = (p, tt)
 all_put P f (g ∷ gs) p a = cut (order g f) (all_put P f gs p a.1)
   where
-    cut : (o : Ordering) → All P (put f gs) → All P (cond (is_lt o) (g ∷ put f gs) (cond (is_eq o) (g ∷ gs) (f ∷ g ∷ gs)))
+    cut : (o : Ordering) → AllByRecursion P (put f gs) → AllByRecursion P (cond (is_lt o) (g ∷ put f gs) (cond (is_eq o) (g ∷ gs) (f ∷ g ∷ gs)))
     cut Less h = (a.0, h)
     cut Equal h = a
     cut Greater h = (p, a)
@@ -94,7 +94,7 @@ module _ (p : List ℕ) (fs : List (List ℕ)) (f : List ℕ) (cs : List (List �
   more : (c : List ℕ) → holds (fs ++ f ∷ []) c ≡ (holds fs c || (at_or_below f c || false))
   more c = holds_append fs (f ∷ []) c
 
-  still : All (λ (c : List ℕ). (child p c ≡ true) × (holds (fs ++ f ∷ []) c ≡ true)) cs
+  still : AllByRecursion (λ (c : List ℕ). (child p c ≡ true) × (holds (fs ++ f ∷ []) c ≡ true)) cs
   still = All-weaker _ _ (λ c q. (q.0, more c ∙ or_left (holds fs c) (at_or_below f c || false) q.1)) cs h.sound
 
   which : (d : List ℕ) → holds (fs ++ f ∷ []) d ≡ true → (holds fs d ≡ true) ⊎ (at_or_below f d ≡ true)

@@ -3,7 +3,7 @@ use Rattle.std.specs.Prelude.{◌≡◌, ℕ, ◌+◌, ◌<◌, Bool, true, fals
 use Rattle.std.specs.declared.cmp.Ordering.TheVariants.{Less}
 use Rattle.facet.specs.Paths.{at_or_below, child, order}
 use Rattle.std.specs.Ordering.{is_lt, is_eq}
-use Rattle.std.specs.List.{AllByRecursion as All}
+use Rattle.std.specs.List.{AllByRecursion}
 use Rattle.std.specs.Str.{bytes_eq}
 
 -- some of the facets is at or below c
@@ -30,7 +30,7 @@ Ascending (f ∷ g ∷ fs) = (order f g ≡ Less) × Ascending (g ∷ fs)
 -- the entries below p: at each child of p the number of recipes, an entry exactly where that is above 0, and no others
 pub record Counted (rs : List (List (List ℕ))) (p : List ℕ) (es : List (List ℕ × ℕ)) : Type 0 where
   pub counts : (c : List ℕ) → child p c ≡ true → count_of es c ≡ recipes_at rs c
-  pub entries : All (λ (e : List ℕ × ℕ). (child p e.0 ≡ true) × (0 < e.1)) es
+  pub entries : AllByRecursion (λ (e : List ℕ × ℕ). (child p e.0 ≡ true) × (0 < e.1)) es
   pub ascending : Ascending (map (λ (e : List ℕ × ℕ). e.0) es)
 
 -- every entry has the least count
@@ -51,6 +51,6 @@ put f (g ∷ gs) = cond (is_lt (order g f)) (g ∷ put f gs) (cond (is_eq (order
 
 -- the children of p that some of the facets is at or below, in order
 pub record Children (p : List ℕ) (fs : List (List ℕ)) (cs : List (List ℕ)) : Type 0 where
-  pub sound : All (λ (c : List ℕ). (child p c ≡ true) × (holds fs c ≡ true)) cs
+  pub sound : AllByRecursion (λ (c : List ℕ). (child p c ≡ true) × (holds fs c ≡ true)) cs
   pub whole : (d : List ℕ) → child p d ≡ true → holds fs d ≡ true → member cs d ≡ true
   pub ascending : Ascending cs

@@ -8,6 +8,7 @@ use options::Options;
 use recipes::{LineFault, ListFault, Recipe, all_reach, count_children, entry_line, read_list};
 use std::alloc::{AllocError, AllocFailed};
 use std::io::Read;
+use std::process::ExitCode;
 use std::{env, fs, io};
 
 const HELP: &str = "Counts recipes by facet.
@@ -61,13 +62,13 @@ struct List {
     recipes: Vec<Recipe>,
 }
 
-fn main(rt: HostRuntime) -> Result<(), ()> {
+fn main(rt: HostRuntime) -> ExitCode {
     match run(&rt) {
-        Ok(()) => Ok(()),
-        Err(Ended::Told) => Err(()),
+        Ok(()) => ExitCode::SUCCESS,
+        Err(Ended::Told) => ExitCode::FAILURE,
         Err(Ended::Io(error)) => {
             let _ = eprintln!(rt; "tellsuede: {error}");
-            Err(())
+            ExitCode::FAILURE
         }
     }
 }

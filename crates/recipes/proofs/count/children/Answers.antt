@@ -16,8 +16,8 @@ loop-recipe-init c = let p = encoded_of c.args.branch.now in subst (Children p [
 
 pub loop-recipe-preserved : goal.loop-recipe-preserved
 loop-recipe-preserved c =
-    subst (λ (l : List (List ℕ)). Children (encoded_of c.args.branch.now) l (map encoded_of (vec_items c.put-children.new.all)))
-    (held_more _ c.loop-recipe.recipe-index _ c.loop-recipe-test.true c.recipe-item.is) (c.in-ok-put-children.ensures _ c.loop-recipe.invariant)
+    subst (λ (l : List (List ℕ)). Children (encoded_of c.args.branch.now) l (map encoded_of (vec_items c.put_children.new.all)))
+    (held_more _ c.loop-recipe.recipe-index _ c.loop-recipe-test.true c.recipe-item.is) (c.in_ok-put_children.ensures _ c.loop-recipe.invariant)
 
 pub returns : goal.returns
 returns c =

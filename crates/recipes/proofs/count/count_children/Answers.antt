@@ -19,13 +19,13 @@ more g xs i x es n h e q a =
 
 pub loop-facet-preserved : goal.loop-facet-preserved
 loop-facet-preserved c =
-    ap (map entry_of) c.in-ok-push.ensures.items
-    ∙ more _ _ c.loop-facet.facet-index _ _ _ c.loop-facet-test.true c.facet-item.is c.count-at.ensures c.loop-facet.invariant
+    ap (map entry_of) c.in_ok-push.ensures.items
+    ∙ more _ _ c.loop-facet.facet-index _ _ _ c.loop-facet-test.true c.facet-item.is c.count_at.ensures c.loop-facet.invariant
 
 pub returns : goal.returns
 returns c =
     let xs = c.args.recipes.now in
     let p = encoded_of c.args.branch.now in
     subst (Counted (map held_by xs) p)
-    (sym (c.loop-facet.invariant ∙ ap (λ l. entries (recipes_at (map held_by xs)) (map encoded_of l)) (take_all c.loop-facet.facet-index _ c.loop-facet-test.false ∙ c.as-slice-facets.ensures.value)))
-    (counted held_by xs p _ c.in-ok-all.ensures)
+    (sym (c.loop-facet.invariant ∙ ap (λ l. entries (recipes_at (map held_by xs)) (map encoded_of l)) (take_all c.loop-facet.facet-index _ c.loop-facet-test.false ∙ c.as_slice-facets.ensures.value)))
+    (counted held_by xs p _ c.in_ok-all.ensures)

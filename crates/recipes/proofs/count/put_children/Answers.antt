@@ -6,7 +6,7 @@ use Rattle.std.proofs.lemmas.Result.{err_from_is_err_and}
 use Rattle.recipes.specs.Counting.{Children}
 use Rattle.recipes.proofs.Counts.{no_child_more, child_more}
 use Rattle.recipes.proofs.count.put_children.Goals as goal
-use Rattle.recipes.proofs.count.put_children.Goals.{in-Some+in-ok-put, in-default}
+use Rattle.recipes.proofs.count.put_children.Goals.{in-Some+in_ok-put, in_default}
 
 -- the facets up to i, with that at i
 seen_more : (seen : List (List ℕ)) (xs : List Facet) (i : ℕ) (x : Facet) → i < length xs → x ≡ get_or xs i x → (seen ++ map encoded_of (take i xs)) ++ encoded_of x ∷ [] ≡ seen ++ map encoded_of (take (i + 1) xs)
@@ -20,19 +20,19 @@ loop-facet-init c seen h = subst (λ (l : List (List ℕ)). Children (encoded_of
 pub loop-facet-preserved : goal.loop-facet-preserved
 loop-facet-preserved c seen h =
     let p = encoded_of c.args.branch.now in
-    let all = map encoded_of (vec_items c.match-child-toward.all) in
+    let all = map encoded_of (vec_items c.match-child_toward.all) in
     subst (λ (l : List (List ℕ)). Children p l all) (seen_more seen _ c.loop-facet.facet-index _ c.loop-facet-test.true c.facet-item.is)
-    (elim c.match-child-toward.branch [
-      | in-Some+in-ok-put w ↦
-          subst (Children p _) (sym w.in-ok-put.ensures ∙ ap (λ v. map encoded_of (vec_items v)) (sym w.all-is)) (child_more p _ _ _ (c.loop-facet.invariant seen h) _ w.in-Some.ensures)
-      | in-default w ↦
-          subst (Children p _) (ap (λ v. map encoded_of (vec_items v)) (sym w.all-is)) (no_child_more p _ _ _ (c.loop-facet.invariant seen h) w.in-default.ensures)
+    (elim c.match-child_toward.branch [
+      | in-Some+in_ok-put w ↦
+          subst (Children p _) (sym w.in_ok-put.ensures ∙ ap (λ v. map encoded_of (vec_items v)) (sym w.all-is)) (child_more p _ _ _ (c.loop-facet.invariant seen h) _ w.in-Some.ensures)
+      | in_default w ↦
+          subst (Children p _) (ap (λ v. map encoded_of (vec_items v)) (sym w.all-is)) (no_child_more p _ _ _ (c.loop-facet.invariant seen h) w.in_default.ensures)
     ])
 
 pub returns : goal.returns
 returns c seen h =
     subst (λ (l : List Facet). Children (encoded_of c.args.branch.now) (seen ++ map encoded_of l) (map encoded_of (vec_items c.loop-facet.all)))
-    (take_all c.loop-facet.facet-index _ c.loop-facet-test.false ∙ c.as-slice-facets.ensures.value) (c.loop-facet.invariant seen h)
+    (take_all c.loop-facet.facet-index _ c.loop-facet-test.false ∙ c.as_slice-facets.ensures.value) (c.loop-facet.invariant seen h)
 
-pub returns-in-err-put : goal.returns-in-err-put
-returns-in-err-put c = let p = err_from_is_err_and c.from-residual.result c.from-residual.ensures.1 in rw p.1 tt
+pub returns-in_err-put : goal.returns-in_err-put
+returns-in_err-put c = let p = err_from_is_err_and c.from_residual.result c.from_residual.ensures.1 in rw p.1 tt

@@ -15,23 +15,23 @@ apart s n xs e h =
     split_first s xs (omega arith) ∙ (λ i. take (z i) xs ∷ split s (drop (y i) xs)) ∙ ap (λ (l : List ℕ). take (n - 0) xs ∷ split s l) (sym (take_rest xs (n + 1)))
 
 pub returns-then-len-bytes : goal.returns-then-len-bytes
-returns-then-len-bytes c = record { pieces = split_whole c.args.separator c.args.bytes.now (sym c.piece-len-len.ensures ∙ c.if-len-bytes.true); less = omega arith }
+returns-then-len-bytes c = record { pieces = split_whole c.args.separator c.args.bytes.now (sym c.piece_len-len.ensures ∙ c.if-len-bytes.true); less = omega arith }
 
-pub slice-bounds-result-end : goal.slice-bounds-result-end
-slice-bounds-result-end c = let h = shorter _ _ _ c.piece-len-len.ensures c.if-len-bytes.false in search rules
+pub slice_bounds-result-end : goal.slice_bounds-result-end
+slice_bounds-result-end c = let h = shorter _ _ _ c.piece_len-len.ensures c.if-len-bytes.false in search rules
 
-pub overflow-add-result : goal.overflow-add-result
-overflow-add-result c = let h = shorter _ _ _ c.piece-len-len.ensures c.if-len-bytes.false in search rules
+pub overflow_add-result : goal.overflow_add-result
+overflow_add-result c = let h = shorter _ _ _ c.piece_len-len.ensures c.if-len-bytes.false in search rules
 
-pub slice-bounds-result-count-2 : goal.slice-bounds-result-count-2
-slice-bounds-result-count-2 c = let h = shorter _ _ _ c.piece-len-len.ensures c.if-len-bytes.false in search rules
+pub slice_bounds-result-count-2 : goal.slice_bounds-result-count-2
+slice_bounds-result-count-2 c = let h = shorter _ _ _ c.piece_len-len.ensures c.if-len-bytes.false in search rules
 
-pub slice-bounds-result-start-2 : goal.slice-bounds-result-start-2
-slice-bounds-result-start-2 c = let h = shorter _ _ _ c.piece-len-len.ensures c.if-len-bytes.false in search rules
+pub slice_bounds-result-start-2 : goal.slice_bounds-result-start-2
+slice_bounds-result-start-2 c = let h = shorter _ _ _ c.piece_len-len.ensures c.if-len-bytes.false in search rules
 
 pub returns : goal.returns
 returns c =
     let xs = c.args.bytes.now in
-    let n = c.piece-len-len.result in
-    let h = shorter _ n xs c.piece-len-len.ensures c.if-len-bytes.false in
-    record { pieces = apart _ n xs c.piece-len-len.ensures h; less = simp (take_rest, length-drop) (omega arith) }
+    let n = c.piece_len-len.result in
+    let h = shorter _ n xs c.piece_len-len.ensures c.if-len-bytes.false in
+    record { pieces = apart _ n xs c.piece_len-len.ensures h; less = simp (take_rest, length-drop) (omega arith) }

@@ -27,11 +27,11 @@ pub loop-left-preserved : goal.loop-left-preserved
 loop-left-preserved c =
     c.loop-left.invariant
     ∙ ap (λ o. ahead (map encoded_of (vec_items c.loop-left.facets)) (facets_from c.args.number (suc (vec_len c.loop-left.facets)) (behind 9 o))) c.in-Some.is
-    ∙ more _ _ _ _ c.in-Ok.facet _ _ _ _ c.cut-in-Some.ensures.pieces c.in-Ok.ensures c.in-ok-push.ensures.items c.in-ok-push.ensures.len
+    ∙ more _ _ _ _ c.in-Ok.facet _ _ _ _ c.cut-in-Some.ensures.pieces c.in-Ok.ensures c.in_ok-push-in-Ok.ensures.items c.in_ok-push-in-Ok.ensures.len
 
 pub returns : goal.returns
 returns c =
     let fs = map encoded_of (vec_items c.loop-left.facets) in
     whole _ c.args.line.now _ _ fs c.cut.ensures.pieces
-    (c.loop-left.invariant ∙ ap (λ o. ahead fs (facets_from c.args.number (suc (vec_len c.loop-left.facets)) (behind 9 o))) c.in-default.is ∙ ahead_all fs)
-    ∙ ap (λ name. Ok (name, fs)) (sym c.in-ok-name.ensures.items)
+    (c.loop-left.invariant ∙ ap (λ o. ahead fs (facets_from c.args.number (suc (vec_len c.loop-left.facets)) (behind 9 o))) c.in_default.is ∙ ahead_all fs)
+    ∙ ap (λ name. Ok (name, fs)) (sym c.in_ok-name.ensures.items)

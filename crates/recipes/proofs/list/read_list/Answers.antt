@@ -4,7 +4,7 @@ use Rattle.recipes.specs.declared.recipe.Recipe.{Recipe}
 use Rattle.recipes.specs.Lines.{bare, first, recipe_of, recipes_from, told_of, behind, room}
 use Rattle.recipes.proofs.Lists.{ahead, ahead_first}
 use Rattle.recipes.proofs.list.read_list.Goals as goal
-use Rattle.recipes.proofs.list.read_list.Goals.{then-not-is-empty+in-ok-read-line+in-ok-push, else-not-is-empty}
+use Rattle.recipes.proofs.list.read_list.Goals.{then-not-is_empty+in_ok-read_line+in_ok-push, else-not-is_empty}
 
 -- a line b, and then the rest
 module _ (n : ℕ) (ls rest : List (List ℕ)) (l b : List ℕ) (e : ls ≡ l ∷ rest) (q : b ≡ bare l) where
@@ -25,11 +25,11 @@ loop-left-preserved c =
     let n = c.loop-left.number in
     let m = ap room c.in-Some.is in
     let before = c.loop-left.invariant.0 ∙ ap (λ o. ahead (map told_of (vec_items c.loop-left.recipes)) (recipes_from n (behind 10 o))) c.in-Some.is in (
-      before ∙ elim c.if-not-is-empty.branch [
-        | then-not-is-empty+in-ok-read-line+in-ok-push w ↦
-            more n _ _ _ _ c.cut.ensures.pieces c.bare-line.ensures _ _ _ w.if-not-is-empty.ensures w.in-ok-read-line.ensures (ap vec_items w.recipes-is ∙ w.in-ok-push.ensures.items)
-        | else-not-is-empty w ↦
-            ap (ahead (map told_of (vec_items c.loop-left.recipes))) (by_line n _ _ _ _ c.cut.ensures.pieces c.bare-line.ensures true w.if-not-is-empty.ensures)
+      before ∙ elim c.if-not-is_empty.branch [
+        | then-not-is_empty+in_ok-read_line+in_ok-push w ↦
+            more n _ _ _ _ c.cut.ensures.pieces c.bare-line.ensures _ _ _ w.if-not-is_empty.ensures w.in_ok-read_line.ensures (ap vec_items w.recipes-is ∙ w.in_ok-push.ensures.items)
+        | else-not-is_empty w ↦
+            ap (ahead (map told_of (vec_items c.loop-left.recipes))) (by_line n _ _ _ _ c.cut.ensures.pieces c.bare-line.ensures true w.if-not-is_empty.ensures)
             ∙ ap (λ v. ahead (map told_of (vec_items v)) (recipes_from (n + 1) (behind 10 c.cut.result.1))) (sym w.recipes-is)
       ],
       omega (arith, c.loop-left.invariant.1, c.cut.ensures.less),

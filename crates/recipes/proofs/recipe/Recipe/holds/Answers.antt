@@ -11,18 +11,18 @@ use Rattle.recipes.proofs.recipe.Recipe.holds.Goals as goal
 from : (xs : List Facet) (i : ℕ) (x : Facet) (c : List ℕ) (t : Bool) → i < length xs → x ≡ get_or xs i x → t ≡ at_or_below (encoded_of x) c → holds (map encoded_of (drop i xs)) c ≡ (t || holds (map encoded_of (drop (i + 1) xs)) c)
 from xs i x c t h e q = at_item (λ l. holds (map encoded_of l) c) xs i x h e ∙ ap (λ (u : Bool). u || holds (map encoded_of (drop (i + 1) xs)) c) (sym q)
 
-pub returns-then-is-at-or-below : goal.returns-then-is-at-or-below
-returns-then-is-at-or-below c =
+pub returns-then-is_at_or_below : goal.returns-then-is_at_or_below
+returns-then-is_at_or_below c =
     let b = encoded_of c.args.branch.now in
-    sym (ap (λ (l : List Facet). holds (map encoded_of l) b) (sym c.as-slice-facets.ensures.value) ∙ c.loop-facet.invariant
-    ∙ from _ c.loop-facet.facet-index _ b true c.loop-facet-test.true c.facet-item.is c.if-is-at-or-below.ensures)
+    sym (ap (λ (l : List Facet). holds (map encoded_of l) b) (sym c.as_slice-facets.ensures.value) ∙ c.loop-facet.invariant
+    ∙ from _ c.loop-facet.facet-index _ b true c.loop-facet-test.true c.facet-item.is c.if-is_at_or_below.ensures)
 
 pub loop-facet-preserved : goal.loop-facet-preserved
 loop-facet-preserved c =
-    c.loop-facet.invariant ∙ from _ c.loop-facet.facet-index _ (encoded_of c.args.branch.now) false c.loop-facet-test.true c.facet-item.is c.if-is-at-or-below.ensures
+    c.loop-facet.invariant ∙ from _ c.loop-facet.facet-index _ (encoded_of c.args.branch.now) false c.loop-facet-test.true c.facet-item.is c.if-is_at_or_below.ensures
 
 pub returns : goal.returns
 returns c =
     let b = encoded_of c.args.branch.now in
-    sym (ap (λ (l : List Facet). holds (map encoded_of l) b) (sym c.as-slice-facets.ensures.value) ∙ c.loop-facet.invariant
+    sym (ap (λ (l : List Facet). holds (map encoded_of l) b) (sym c.as_slice-facets.ensures.value) ∙ c.loop-facet.invariant
     ∙ at_drop_all (λ (l : List Facet). holds (map encoded_of l) b) _ c.loop-facet.facet-index c.loop-facet-test.false)
