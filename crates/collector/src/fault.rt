@@ -1,7 +1,7 @@
 // The refusals of collectors.
 ghost use Rattle.std.specs.Prelude.{◌≡◌};
 ghost use Rattle.collector.specs.Faults.{opening_number, collecting_number, collector_number, floor_number};
-ghost use Rattle.collector.specs.declared.fault.CollectorFault.TheVariants.{Opening as OpeningOf, Collecting as collecting_of};
+ghost use Rattle.collector.specs.declared.fault.CollectorFault.TheVariants.{Opening as OpeningOf, Collecting as CollectingOf};
 
 use std::fmt;
 
@@ -100,7 +100,7 @@ impl From<OpeningFault> for CollectorFault {
 }
 
 impl From<CollectingFault> for CollectorFault {
-    ghost from_gives = { λ e r. r ≡ collecting_of e };
+    ghost from_gives = { λ e r. r ≡ CollectingOf e };
 
     fn from(e: CollectingFault) -> CollectorFault {
         CollectorFault::Collecting(e)
