@@ -1,7 +1,8 @@
-use Rattle.std.proofs.Common.{◌≡◌, ℕ, suc, ◌+◌, List, [], ◌∷◌, ◌++◌, map, get_or, drop, Ok, vec_items, vec_len, sym, ap, ◌∙◌, add-one}
+use Rattle.std.proofs.Common.{◌≡◌, ℕ, suc, ◌+◌, List, [], ◌∷◌, ◌++◌, map, get_or, drop, Ok, Err, vec_items, vec_len, sym, ap, ◌∙◌, add-one}
 use Rattle.facet.specs.declared.encoded.Facet.{Facet}
+use Rattle.facet.specs.declared.fault.FacetFault.{FacetFault}
 use Rattle.facet.specs.Facets.{encoded_of}
-use Rattle.facet.specs.Pieces.{split}
+use Rattle.facet.specs.Pieces.{split, first_piece}
 use Rattle.facet.specs.Reading.{read}
 use Rattle.std.proofs.lemmas.List.{map_push}
 use Rattle.recipes.specs.Lines.{first, placed, facets_from, recipe_of, named, behind}
@@ -23,6 +24,14 @@ whole : (n : ℕ) (line name : List ℕ) (ts : List (List ℕ)) (fs : List (List
 whole n line name ts fs e q =
     (λ i. named (first_of_split 9 line [] i) (facets_from n 1 (drop 1 (e i)))) ∙ (λ i. named (get_or (e i) 0 []) (q i))
 
+-- a text is refused, at the field behind those that were read
+stopped : (n k m : ℕ) (line name t : List ℕ) (ts fs us vs : List (List ℕ)) (e : FacetFault) → split 9 line ≡ name ∷ ts → facets_from n 1 ts ≡ ahead fs (facets_from n (suc k) us) → us ≡ t ∷ vs → Err e ≡ read t → m ≡ k
+    → recipe_of n line ≡ Err (record { line = n; field = m + 1; text = t; fault = e })
+stopped n k m line name t ts fs us vs e p q u r z =
+    (λ i. named (first_piece 9 line) (facets_from n 1 (drop 1 (p i))))
+    ∙ ap (named (first_piece 9 line)) (q ∙ (λ i. ahead fs (facets_from n (suc k) (u i))) ∙ ap (λ o. ahead fs (first (placed n (suc k) t o) (facets_from n (suc (suc k)) vs))) (sym r))
+    ∙ (λ i. Err (record { line = n; field = sym (ap (λ j. j + 1) z ∙ add-one k) i; text = t; fault = e }))
+
 pub loop-left-preserved : goal.loop-left-preserved
 loop-left-preserved c =
     c.loop-left.invariant
@@ -35,3 +44,9 @@ returns c =
     whole _ c.args.line.now _ _ fs c.cut.ensures.pieces
     (c.loop-left.invariant ∙ ap (λ o. ahead fs (facets_from c.args.number (suc (vec_len c.loop-left.facets)) (behind 9 o))) c.in_default.is ∙ ahead_all fs)
     ∙ ap (λ name. Ok (name, fs)) (sym c.in_ok-name.ensures.items)
+
+pub returns-in-Err : goal.returns-in-Err
+returns-in-Err c =
+    let fs = map encoded_of (vec_items c.loop-left.facets) in
+    stopped c.args.number _ _ c.args.line.now _ _ _ fs _ _ _ c.cut.ensures.pieces c.loop-left.invariant
+    (ap (behind 9) c.in-Some.is ∙ c.cut-in-Some.ensures.pieces) c.in-Err.ensures c.len-field.ensures
