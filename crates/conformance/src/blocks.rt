@@ -6,15 +6,6 @@ use std::io;
 // What the buffer holds before a call.
 const FREE: u32 = 4_000_000_000;
 
-fn unchanged(buffer: &[u32]) -> bool {
-    for number in buffer {
-        if *number != FREE {
-            return false;
-        }
-    }
-    true
-}
-
 // A block of the documents, and the document behind it.
 fn block<S: DocSet>(rt: &HostRuntime, docs: &mut S) -> io::Result<()> {
     let mut buffer = [FREE; 64];
@@ -29,7 +20,7 @@ fn block<S: DocSet>(rt: &HostRuntime, docs: &mut S) -> io::Result<()> {
     }
     let rest = &buffer[len..];
     let left = rest.len();
-    let same = unchanged(rest);
+    let same = rest.iter().all(|number| *number == FREE);
     println!(rt; "{left} unchanged {same}, next {next}")
 }
 
@@ -43,11 +34,7 @@ fn blocks<S: DocSet>(rt: &HostRuntime, name: &str, docs: &mut S) -> io::Result<(
 
 // Every third document.
 fn thirds(heap: Global, count: u32) -> Result<Vec<u32>, AllocError> {
-    let mut docs = Vec::new(heap);
-    for i in 0..count {
-        docs.push(i.wrapping_mul(3))?;
-    }
-    Ok(docs)
+    (0..count).map(|i| i.wrapping_mul(3)).collect(heap)
 }
 
 fn held(rt: &HostRuntime, name: &str, count: u32) -> io::Result<()> {

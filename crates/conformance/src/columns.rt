@@ -1,6 +1,6 @@
 // Columns that fail one question or several, and the places told.
-use crate::cases::Quoted;
-use segment::{Column, ColumnFault, Tables};
+use crate::cases::{Quoted, Refusal};
+use segment::{Column, Tables};
 use std::{fmt, io};
 
 // Numbers with blanks between them.
@@ -17,22 +17,6 @@ impl<'a> fmt::Display for Numbers<'a> {
             write!(f, " {number}")?;
         }
         Ok(())
-    }
-}
-
-// A refusal with its number and place.
-#[derive(Clone, Copy)]
-struct Refusal(ColumnFault);
-
-impl fmt::Display for Refusal {
-    fn fmt<W: fmt::Write>(&self, f: &mut fmt::Formatter<W>) -> fmt::Result {
-        let fault = self.0;
-        let number = fault.number();
-        write!(f, "refused {number}")?;
-        if let Some(place) = fault.place() {
-            write!(f, " at {place}")?;
-        }
-        write!(f, " ({fault})")
     }
 }
 

@@ -1,20 +1,8 @@
 // Fields behind others, good and refused.
-use crate::cases::Quoted;
+use crate::cases::{Quoted, Refusal};
 use crate::sample::SAMPLE;
-use segment::{Field, Kind, SegmentFault, Tables, check_field};
-use std::{fmt, io};
-
-// A refusal with its number.
-#[derive(Clone, Copy)]
-pub struct Refusal(pub SegmentFault);
-
-impl fmt::Display for Refusal {
-    fn fmt<W: fmt::Write>(&self, f: &mut fmt::Formatter<W>) -> fmt::Result {
-        let fault = self.0;
-        let number = fault.number();
-        write!(f, "refused {number} ({fault})")
-    }
-}
+use segment::{Field, Kind, Tables, check_field};
+use std::io;
 
 // Two equal terms.
 pub const TWINS: Tables = Tables {
@@ -42,13 +30,6 @@ const BEFORE: [Field; 4] = [
         kind: Kind::Other,
     },
 ];
-
-fn is_facet(kind: Kind) -> bool {
-    match kind {
-        Kind::Facet(_) => true,
-        Kind::Other => false,
-    }
-}
 
 fn show<'a>(rt: &HostRuntime, before: &[Field<'a>], field: &Field<'a>) -> io::Result<()> {
     match check_field(before, field) {
@@ -83,7 +64,7 @@ fn behind<'a>(
     kind: Kind<'a>,
 ) -> io::Result<()> {
     let shown = Quoted(name);
-    let facet = is_facet(kind);
+    let facet = matches!(kind, Kind::Facet(_));
     let count = before.len();
     print!(rt; "field {shown}, facet {facet}, behind {count}: ")?;
     show(rt, before, &Field { name, kind })

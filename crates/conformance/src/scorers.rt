@@ -1,4 +1,5 @@
 // Scorers, good and refused, walked to the end and past it.
+use crate::cases::Refusal;
 use crate::columns::Numbers;
 use docset::{AllDocs, DocSet, Held, Scorer, ScorerFault, TERMINATED, count};
 use std::io;
@@ -11,10 +12,7 @@ fn show<S: Scorer>(
 ) -> io::Result<()> {
     match answer {
         Ok(()) => print!(rt; "ok")?,
-        Err(fault) => {
-            let number = fault.number();
-            print!(rt; "refused {number} ({fault})")?;
-        }
+        Err(fault) => rt.print(Refusal(fault))?,
     }
     let doc = scorer.doc();
     let score = scorer.score();

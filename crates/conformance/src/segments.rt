@@ -1,7 +1,7 @@
 // Segments, good and refused, their fields and their alive sets.
-use crate::cases::Quoted;
+use crate::cases::{Quoted, Refusal};
 use crate::columns::show_column;
-use crate::fields::{Refusal, TWINS};
+use crate::fields::TWINS;
 use crate::sample::SAMPLE;
 use segment::{Field, Kind, Segment, Tables};
 use std::io;

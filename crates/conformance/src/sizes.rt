@@ -35,11 +35,7 @@ fn many_bytes(heap: Global) -> Result<Vec<u8>, AllocError> {
 }
 
 fn many_ends(heap: Global) -> Result<Vec<u32>, AllocError> {
-    let mut ends = Vec::new(heap);
-    for i in 0..4096 {
-        ends.push(2 * i + 2)?;
-    }
-    Ok(ends)
+    (1..4097).map(|i| 2 * i).collect(heap)
 }
 
 fn many_terms(rt: &HostRuntime) -> io::Result<()> {
