@@ -1,8 +1,9 @@
 // The text of a facet.
-ghost use Rattle.std.specs.Prelude.{◌≡◌, ◌+◌, ◌<◌, ◌≤◌, ◌||◌, ◌++◌, length, take, drop, Some, Ok, ◌==◌};
-ghost use Rattle.facet.specs.Facets.{encoded_of, answer_of};
+ghost use Rattle.std.specs.Prelude.{◌≡◌, ◌+◌, ◌<◌, ◌≤◌, true, ◌||◌, ◌++◌, length, take, drop, Some, Ok, ◌==◌};
 ghost use Rattle.facet.specs.Laws.{Printed, ReadsBack, WorkedCases};
+ghost use Rattle.facet.specs.Reading.{read};
 ghost use Rattle.facet.specs.Text.{printed, shown};
+ghost use Rattle.utf8.specs.Octets.{utf8};
 
 use super::{Facet, SEPARATOR};
 use crate::fault::FacetFault;
@@ -45,7 +46,8 @@ fn put(buffer: &mut [u8], at: usize, b: u8) -> usize
 impl Facet {
     // How long the text is.
     fn printed_len(&self) -> usize
-        ensures { (result ≡ length (printed (encoded_of self.now))) × (result ≤ 255) }
+        ensures value { result ≡ length (printed self.now) }
+        ensures bound { result ≤ 255 }
     {
         let encoded = self.encoded();
         let mut len = 1;
@@ -57,13 +59,16 @@ impl Facet {
 
     // Writes the text into the buffer, and answers how long it is.
     pub fn print(&self, buffer: &mut [u8]) -> Result<usize, FacetFault>
-        ensures { Printed (printed (encoded_of self.now)) buffer.old result buffer.new }
+        ensures written { Printed (printed self.now) buffer.old result buffer.new }
+        ensures bound { length (printed self.now) ≤ 255 }
+        ensures text { utf8 (printed self.now) ≡ true }
+        ensures reads_back { read (printed self.now) ≡ Ok self.now }
     {
+        let encoded = self.encoded();
         if buffer.len() < self.printed_len() {
             return Err(FacetFault::BufferTooShort);
         }
         buffer[0] = b'/';
-        let encoded = self.encoded();
         let mut at = 1;
         for b in encoded {
             at = put(buffer, at, *b);
@@ -73,7 +78,7 @@ impl Facet {
 
     // Reads the facet's own text, which gives the facet back.
     pub fn reread(&self) -> Result<Facet, FacetFault>
-        ensures value { answer_of result ≡ Ok (encoded_of self.now) }
+        ensures value { result ≡ Ok self.now }
         ensures law { ReadsBack }
         ensures worked { WorkedCases }
     {
@@ -86,7 +91,7 @@ impl Facet {
 }
 
 impl fmt::Display for Facet {
-    ghost output = { λ f. Some (printed (encoded_of f)) };
+    ghost output = { λ f. Some (printed f) };
 
     fn fmt<W: fmt::Write>(&self, f: &mut fmt::Formatter<W>) -> fmt::Result {
         let mut text = [0; 255];

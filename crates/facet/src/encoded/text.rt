@@ -1,6 +1,5 @@
 // A facet from its text or its encoding.
 ghost use Rattle.std.specs.Prelude.{◌≡◌, ◌<◌, true, false, [], ◌∷◌, length, MatchOption};
-ghost use Rattle.facet.specs.Facets.{answer_of};
 ghost use Rattle.facet.specs.Reading.{limited, read, decoded};
 ghost use Rattle.facet.specs.Text.{unescaped};
 ghost use Rattle.utf8.specs.Octets.{utf8};
@@ -27,7 +26,7 @@ fn next_byte(text: &[u8]) -> Option<(u8, &[u8])>
 // The facet of the text behind the first slash.
 fn unescape(text: &[u8]) -> Result<Facet, FacetFault>
     requires { utf8 text.now ≡ true }
-    ensures { answer_of result ≡ limited (unescaped false text.now) }
+    ensures { result ≡ limited (unescaped false text.now) }
 {
     let mut bytes = [0; 127];
     let mut len: u8 = 0;
@@ -46,7 +45,7 @@ fn unescape(text: &[u8]) -> Result<Facet, FacetFault>
 impl Facet {
     // A slash, and then the steps with a slash between them; a backslash takes the next byte as it is.
     pub fn from_text(text: &[u8]) -> Result<Facet, FacetFault>
-        ensures { answer_of result ≡ read text.now }
+        ensures { result ≡ read text.now }
     {
         if text.len() > 255 {
             return Err(FacetFault::TextTooLong);
@@ -61,7 +60,7 @@ impl Facet {
     }
 
     pub fn from_encoded(encoded: &[u8]) -> Result<Facet, FacetFault>
-        ensures { answer_of result ≡ decoded encoded.now }
+        ensures { result ≡ decoded encoded.now }
     {
         if encoded.len() > 127 {
             return Err(FacetFault::TooLong);

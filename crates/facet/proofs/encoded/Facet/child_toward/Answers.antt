@@ -70,12 +70,12 @@ slice_bounds-hold-end c =
 pub hold-requires : goal.hold-requires
 hold-requires c =
     let h = ends _ _ _ _ _ (sym c.if-not-is_prefix_of.ensures.value) c.encoded-below.ensures.value c.child_offset-start.ensures c.step_end.ensures in
-    let t = text _ _ _ _ _ (sym c.if-not-is_prefix_of.ensures.value) c.encoded-below.ensures.value c.child_offset-start.ensures c.step_end.ensures (omega arith) c.args.other.now.text in
+    let t = text _ _ _ _ _ (sym c.if-not-is_prefix_of.ensures.value) c.encoded-below.ensures.value c.child_offset-start.ensures c.step_end.ensures (omega arith) (ap utf8 (sym c.encoded-below.ensures.value) ∙ c.encoded-below.ensures.text) in
     let n = c.child_offset-start.result + c.step_end.result in
     let xs = c.encoded-below.result.now in
     let l = ap length (whole n xs) ∙ length-take-le n xs h in
     let b = c.encoded-below.ensures.bound in
-    (omega arith, ap utf8 (whole n xs) ∙ t)
+    record { bound = omega arith; text = ap utf8 (whole n xs) ∙ t }
 
 pub returns : goal.returns
 returns c =

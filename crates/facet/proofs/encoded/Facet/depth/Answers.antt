@@ -1,7 +1,6 @@
 use Rattle.std.proofs.Common.{◌≡◌, ℕ, suc, ◌+◌, ◌<◌, Bool, cond, eqb, List, [], ◌∷◌, length, get_or, take, sym, ap, ◌∙◌, arith}
 use Rattle.std.proofs.lemmas.List.{take_more, take_all}
 use Rattle.std.proofs.lemmas.Bool.{eq-eqb, ne_eqb, eqb-false}
-use Rattle.facet.specs.Facets.{encoded_of}
 use Rattle.facet.proofs.Paths.{zeros, zeros_append, depth_is, steps_join}
 use Rattle.facet.proofs.encoded.Facet.depth.Goals as goal
 use Rattle.facet.proofs.encoded.Facet.depth.Goals.{then-b-eq-SEPARATOR, else-b-eq-SEPARATOR}
@@ -27,7 +26,7 @@ loop-b-preserved c =
 
 pub returns : goal.returns
 returns c =
-    let f = encoded_of c.args.self.now in
+    let f = c.args.self.now in
     let e = c.encoded-encoded.ensures.value in
     record {
       value = c.loop-b.invariant.0 ∙ ap (λ (l : List ℕ). suc (zeros l)) (take_all c.loop-b.b-index _ c.loop-b-test.false ∙ e)

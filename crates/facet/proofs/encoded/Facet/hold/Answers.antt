@@ -11,13 +11,13 @@ invariant_of-result c =
     let e = c.args.encoded.now in
     let q = put e c.copy_from_slice.new.self c.copy_from_slice.ensures.after in
     record {
-      full = padded_length e _ c.requires.0 q;
-      within = c.requires.0;
-      text = ap utf8 (padded_front e _ c.requires.0 q) ∙ c.requires.1;
-      padded = padded_zeros e _ c.requires.0 q;
+      full = padded_length e _ c.requires.bound q;
+      within = c.requires.bound;
+      text = ap utf8 (padded_front e _ c.requires.bound q) ∙ c.requires.text;
+      padded = padded_zeros e _ c.requires.bound q;
     }
 
 pub returns : goal.returns
 returns c =
     let e = c.args.encoded.now in
-    padded_front e _ c.requires.0 (put e c.copy_from_slice.new.self c.copy_from_slice.ensures.after)
+    padded_front e _ c.requires.bound (put e c.copy_from_slice.new.self c.copy_from_slice.ensures.after)

@@ -1,7 +1,6 @@
 use Rattle.std.proofs.Common.{◌≡◌, ℕ, suc, ◌+◌, List, length, get_or, take, ap, ◌∙◌, arith, length-append}
 use Rattle.std.proofs.lemmas.List.{take_all}
 use Rattle.std.specs.List.{flat_map}
-use Rattle.facet.specs.Facets.{encoded_of}
 use Rattle.facet.specs.Text.{shown, printed}
 use Rattle.facet.proofs.Texts.{joined_more, length_shown, printed_is}
 use Rattle.facet.proofs.encoded.Facet.printed_len.Goals as goal
@@ -22,6 +21,6 @@ returns c =
     let xs = c.encoded-encoded.result.now in
     let a = take_all c.loop-b.b-index xs c.loop-b-test.false ∙ c.encoded-encoded.ensures.value in
     let e = ap (λ (l : List ℕ). length (flat_map shown l)) a in
-    let f = encoded_of c.args.self.now in
+    let f = c.args.self.now in
     let p : length (printed f) ≡ suc (length (flat_map shown f)) = ap length (printed_is f) in
-    (c.loop-b.invariant.0 ∙ ap (λ (n : ℕ). 1 + n) e ∙ omega arith, omega (arith, c.loop-b.invariant.1, c.encoded-encoded.ensures.bound))
+    record { value = c.loop-b.invariant.0 ∙ ap (λ (n : ℕ). 1 + n) e ∙ omega arith; bound = omega (arith, c.loop-b.invariant.1, c.encoded-encoded.ensures.bound) }

@@ -1,10 +1,9 @@
-use Rattle.std.proofs.Common.{◌≡◌, ℕ, ◌+◌, ◌<◌, ◌≤◌, Bool, cond, List, [], ◌∷◌, ◌++◌, length, get_or, take, set, Ok, Err, sym, refl, ap, ◌∙◌, arith, length-append, length-set}
-use Rattle.std.proofs.lemmas.List.{append_assoc, append-nil, take_more_set, take_all, length-take-le, get_or-set_other}
+use Rattle.std.proofs.Common.{◌≡◌, ℕ, ◌+◌, ◌-◌, ◌<◌, ◌≤◌, Bool, cond, List, [], ◌∷◌, ◌++◌, length, take, drop, set, replicate, Ok, Err, sym, refl, ap, ◌∙◌, arith, length-append, length-set}
+use Rattle.std.proofs.lemmas.List.{append_assoc, append-nil, take_more_set, take_all, length-take-le, drop-drop, drop-set-lt, drop-replicate}
 use Rattle.std.proofs.lemmas.Bool.{lt-ltb, le-ltb}
 use Rattle.utf8.specs.Octets.{utf8}
 use Rattle.facet.specs.declared.fault.FacetFault.TheVariants.{TooLong}
 use Rattle.facet.specs.Reading.{limited}
-use Rattle.facet.proofs.Bytes.{zero_filled}
 use Rattle.facet.proofs.Octets.{utf8_unescaped}
 use Rattle.facet.proofs.encoded.text.unescape.Goals as goal
 
@@ -13,8 +12,10 @@ pushed : (all bytes left rest : List ℕ) (n b : ℕ) → n < length bytes → a
 pushed all bytes left rest n b h e f =
     e ∙ ap (λ (l : List ℕ). take n bytes ++ l) f ∙ sym (append_assoc (take n bytes) (b ∷ []) rest) ∙ ap (λ (l : List ℕ). l ++ rest) (sym (take_more_set bytes n b h))
 
-padded : (bytes : List ℕ) (n b : ℕ) → ((k : ℕ) → n ≤ k → get_or bytes k 0 ≡ 0) → (k : ℕ) → n + 1 ≤ k → get_or (set bytes n b) k 0 ≡ 0
-padded bytes n b f k h = let m : k ≡ n → ⊥ = λ e. omega arith in get_or-set_other bytes n k b 0 m ∙ f k (omega arith)
+padded : (bytes : List ℕ) (n b : ℕ) → drop n bytes ≡ replicate (127 - n) 0 → drop (n + 1) (set bytes n b) ≡ replicate (127 - (n + 1)) 0
+padded bytes n b e =
+    let k : 127 - n - 1 ≡ 127 - (n + 1) = omega arith in
+    drop-set-lt (n + 1) bytes n b (omega arith) ∙ sym (drop-drop 1 n bytes) ∙ ap (drop 1) e ∙ drop-replicate 1 (127 - n) 0 ∙ ap (λ (m : ℕ). replicate m 0) k
 
 too_long : (all bytes left rest : List ℕ) (n b : ℕ) → length bytes ≡ 127 → n ≡ 127 → all ≡ take n bytes ++ left → left ≡ b ∷ rest → limited all ≡ Err TooLong
 too_long all bytes left rest n b l h e f =
@@ -31,7 +32,7 @@ fits all bytes n l h e =
     ap (λ (t : Bool). cond t (Err TooLong) (Ok all)) (le-ltb 127 (length all) (omega arith)) ∙ ap (λ (x : List ℕ). Ok x) e
 
 pub loop-b-init : goal.loop-b-init
-loop-b-init c = (refl, omega arith, λ k h. zero_filled 127 k, refl)
+loop-b-init c = (refl, omega arith, refl, refl)
 
 pub returns-then-len-eq127 : goal.returns-then-len-eq127
 returns-then-len-eq127 c =
