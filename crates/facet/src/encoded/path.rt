@@ -34,17 +34,11 @@ impl Facet {
         ensures value { result ≡ steps_of self.now }
         ensures joined { join 0 (steps self.now) ≡ self.now }
     {
-        let encoded = self.encoded();
-        if encoded.is_empty() {
+        if self.is_root() {
             return 0;
         }
-        let mut depth = 1;
-        for b in encoded {
-            if *b == SEPARATOR {
-                depth += 1;
-            }
-        }
-        depth
+        let separators = self.encoded().iter().filter(|b| **b == SEPARATOR).count();
+        separators as u8 + 1
     }
 
     // Whether this facet is above the other.
