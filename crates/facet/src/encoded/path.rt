@@ -81,6 +81,6 @@ impl Facet {
         if end == 0 {
             return None;
         }
-        Some(Facet::hold(&below[0..end]))
+        Some(Facet::hold(&below[..end]))
     }
 }

@@ -24,7 +24,7 @@ impl Facet {
     {
         let mut bytes = [0; 127];
         let len = encoded.len();
-        bytes[0..len].copy_from_slice(encoded);
+        bytes[..len].copy_from_slice(encoded);
         Facet {
             bytes,
             len: len as u8,
@@ -43,7 +43,7 @@ impl Facet {
         ensures bound { length result.now ≤ 127 }
         ensures text { utf8 result.now ≡ true }
     {
-        &self.bytes[0..self.len as usize]
+        &self.bytes[..self.len as usize]
     }
 
     // The same bytes as text.

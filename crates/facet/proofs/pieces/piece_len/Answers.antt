@@ -13,8 +13,8 @@ pub returns : goal.returns
 returns c =
     let s = c.args.separator in
     let first =
-        IsFirst-from_position _ _ c.position.result (λ b. b ≡ s) (λ b. b ≡ s → ⊥) c.position.ensures.ran (YieldsList-from_slice c.args.bytes.now cc)
-        (λ x q k. search (rules, tests)) (λ x q k. search (rules, tests)) in
+    IsFirst-from_position _ _ c.position.result (λ b. b ≡ s) (λ b. b ≡ s → ⊥) c.position.ensures.ran (YieldsList-from_slice c.args.bytes.now cc)
+    (λ x q k. search (rules, tests)) (λ x q k. search (rules, tests)) in
     c.unwrap_or.ensures
     ∙ sym (index_from_first (λ l. length (first_piece s l)) (λ b. b ≡ s) (λ b. b ≡ s → ⊥) refl
     (λ b bs e. at_piece s b bs _ (eq-eqb b s e)) (λ b bs n. at_piece s b bs _ (ne_eqb b s n) ∙ omega arith) c.args.bytes.now _ first)
