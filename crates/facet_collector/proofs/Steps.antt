@@ -7,7 +7,7 @@ use Rattle.std.proofs.lemmas.Slice.Eq.{bytes_eq-Decides}
 use Rattle.std.proofs.lemmas.Map.Lookups.{exact_bytes}
 use Rattle.std.proofs.lemmas.Bool.{both_ways, cases_Bool, cases_lt, or_right}
 use Rattle.std.specs.Str.{bytes_eq}
-use Rattle.facet_collector.specs.Requests.{Sought, Walked, Mapping}
+use Rattle.facet_collector.specs.Requests.{Sought, Walked, Collapses}
 use Rattle.facet_collector.specs.Children.{requestable, request_of, child_toward, towards, leads, insert_some, children, member, first_below, nothing, collapsed_to, collapsed_by, collapsed, place_in, last_of, slot_of}
 use Rattle.facet_collector.proofs.Lasts.{never_less, Front, member_last, some_there, front_all, some_last, some_new, some_none, last_new, place_last, place_new, place_kept, children_more, children_longer, front_not_member, led_place, led_at}
 use Rattle.facet_collector.proofs.Paths.{above_chain, at_or_below_cases, less_greater, equal_greater, flipped, leads_sound, leads_is}
@@ -143,11 +143,11 @@ module _ (rs ts : List (List ℕ)) (ok : requestable rs ≡ true) (up : Ascends 
   place_stays i q l h =
       let (us, e) = front_children (length ts - i) i (omega arith) in ap (λ xs. place_in xs q) e ∙ place_kept (children rs (take i ts)) us q h
 
-slot_none : (cs : List (List ℕ)) (c : List ℕ) → length c ≡ 0 → slot_of cs c ≡ 255
+slot_none : (cs : List (List ℕ)) (c : List ℕ) → length c ≡ 0 → slot_of cs c ≡ None
 slot_none cs [] z = refl
 slot_none cs (x ∷ c) z = absurd (omega arith)
 
-pub slot_some : (cs : List (List ℕ)) (c : List ℕ) → 0 < length c → slot_of cs c ≡ place_in cs c
+pub slot_some : (cs : List (List ℕ)) (c : List ℕ) → 0 < length c → slot_of cs c ≡ Some (place_in cs c)
 slot_some cs [] z = absurd (omega arith)
 slot_some cs (x ∷ c) z = refl
 
@@ -243,41 +243,41 @@ module _ (rs ts : List (List ℕ)) (ok : requestable rs ≡ true) (up : Ascends 
 
 -- ---- the tables after i terms
 
-pub record Filled (rs ts : List (List ℕ)) (i : ℕ) (mapping : List (ℕ × ℕ)) (slots : List ℕ) : Type 0 where
-  pub slotted : (o : ℕ) → o < i → get_or slots o 0 ≡ slot_of (children rs ts) (leads rs (get_or ts o []))
-  pub mapped : (o : ℕ) → o < i → get_or mapping o (0, 0) ≡ collapsed rs ts o
-  pub slots_left : (o : ℕ) → i ≤ o → o < 4096 → get_or slots o 0 ≡ 255
-  pub mapping_left : (o : ℕ) → i ≤ o → o < 4096 → get_or mapping o (0, 0) ≡ nothing
+pub record Filled (rs ts : List (List ℕ)) (i : ℕ) (mapping : List (ℕ × ℕ)) (slots : List (Option ℕ)) : Type 0 where
+  pub slotted : (o : ℕ) → o < i → get_or slots o None ≡ slot_of (children rs ts) (leads rs (get_or ts o []))
+  pub mapped : (o : ℕ) → o < i → get_or mapping o nothing ≡ collapsed rs ts o
+  pub slots_left : (o : ℕ) → i ≤ o → o < 4096 → get_or slots o None ≡ None
+  pub mapping_left : (o : ℕ) → i ≤ o → o < 4096 → get_or mapping o nothing ≡ nothing
   pub slots_full : length slots ≡ 4096
   pub mapping_full : length mapping ≡ 4096
 
-module _ (rs ts : List (List ℕ)) (i : ℕ) (l : i < length ts) (small : length ts ≤ 4096) (mapping : List (ℕ × ℕ)) (slots : List ℕ) (f : Filled rs ts i mapping slots) where
+module _ (rs ts : List (List ℕ)) (i : ℕ) (l : i < length ts) (small : length ts ≤ 4096) (mapping : List (ℕ × ℕ)) (slots : List (Option ℕ)) (f : Filled rs ts i mapping slots) where
   pub fill_none : length (leads rs (get_or ts i [])) ≡ 0 → Filled rs ts (i + 1) mapping slots
   fill_none z = record {
-    slotted = below_more (λ o. get_or slots o 0 ≡ slot_of (children rs ts) (leads rs (get_or ts o []))) i f.slotted (f.slots_left i (omega arith) (omega arith) ∙ sym (slot_none (children rs ts) _ z));
-    mapped = below_more (λ o. get_or mapping o (0, 0) ≡ collapsed rs ts o) i f.mapped (f.mapping_left i (omega arith) (omega arith) ∙ sym (collapsed_none rs ts i z));
+    slotted = below_more (λ o. get_or slots o None ≡ slot_of (children rs ts) (leads rs (get_or ts o []))) i f.slotted (f.slots_left i (omega arith) (omega arith) ∙ sym (slot_none (children rs ts) _ z));
+    mapped = below_more (λ o. get_or mapping o nothing ≡ collapsed rs ts o) i f.mapped (f.mapping_left i (omega arith) (omega arith) ∙ sym (collapsed_none rs ts i z));
     slots_left = λ o k. f.slots_left o (omega arith);
     mapping_left = λ o k. f.mapping_left o (omega arith);
     slots_full = f.slots_full;
     mapping_full = f.mapping_full;
   }
 
-  pub fill_some : (m : ℕ × ℕ) (s : ℕ) → m ≡ collapsed rs ts i → s ≡ slot_of (children rs ts) (leads rs (get_or ts i [])) → Filled rs ts (i + 1) (set mapping i m) (set slots i s)
+  pub fill_some : (m : ℕ × ℕ) (s : Option ℕ) → m ≡ collapsed rs ts i → s ≡ slot_of (children rs ts) (leads rs (get_or ts i [])) → Filled rs ts (i + 1) (set mapping i m) (set slots i s)
   fill_some m s p q =
       let sf = f.slots_full in
       let mf = f.mapping_full in
       let apart' : (o : ℕ) → i + 1 ≤ o → o ≡ i → ⊥ = λ o k e. omega arith in
       record {
-        slotted = below_more (λ o. get_or (set slots i s) o 0 ≡ slot_of (children rs ts) (leads rs (get_or ts o []))) i (λ o k. get_or-set_other slots i o s 0 (λ e. omega arith) ∙ f.slotted o k) (get_or-set_same slots i s 0 (omega arith) ∙ q);
-        mapped = below_more (λ o. get_or (set mapping i m) o (0, 0) ≡ collapsed rs ts o) i (λ o k. get_or-set_other mapping i o m (0, 0) (λ e. omega arith) ∙ f.mapped o k) (get_or-set_same mapping i m (0, 0) (omega arith) ∙ p);
-        slots_left = λ o k h. get_or-set_other slots i o s 0 (apart' o k) ∙ f.slots_left o (omega arith) h;
-        mapping_left = λ o k h. get_or-set_other mapping i o m (0, 0) (apart' o k) ∙ f.mapping_left o (omega arith) h;
+        slotted = below_more (λ o. get_or (set slots i s) o None ≡ slot_of (children rs ts) (leads rs (get_or ts o []))) i (λ o k. get_or-set_other slots i o s None (λ e. omega arith) ∙ f.slotted o k) (get_or-set_same slots i s None (omega arith) ∙ q);
+        mapped = below_more (λ o. get_or (set mapping i m) o nothing ≡ collapsed rs ts o) i (λ o k. get_or-set_other mapping i o m nothing (λ e. omega arith) ∙ f.mapped o k) (get_or-set_same mapping i m nothing (omega arith) ∙ p);
+        slots_left = λ o k h. get_or-set_other slots i o s None (apart' o k) ∙ f.slots_left o (omega arith) h;
+        mapping_left = λ o k h. get_or-set_other mapping i o m nothing (apart' o k) ∙ f.mapping_left o (omega arith) h;
         slots_full = length-set slots i s ∙ sf;
         mapping_full = length-set mapping i m ∙ mf;
       }
 
 -- all terms are done
-pub mapping_filled : (rs ts : List (List ℕ)) {i n : ℕ} (mapping : List (ℕ × ℕ)) (slots : List ℕ) → i ≤ length ts → length ts ≤ i → n ≡ length (children rs (take i ts)) → n ≤ 128 → Filled rs ts i mapping slots → Mapping rs ts mapping slots
+pub mapping_filled : (rs ts : List (List ℕ)) {i n : ℕ} (mapping : List (ℕ × ℕ)) (slots : List (Option ℕ)) → i ≤ length ts → length ts ≤ i → n ≡ length (children rs (take i ts)) → n ≤ 128 → Filled rs ts i mapping slots → Collapses rs ts mapping slots
 mapping_filled rs ts {i} mapping slots h k e few f =
     let z = ap (λ us. length (children rs us)) (take_all i ts k) in
     record { few = omega arith; slotted = λ o l. f.slotted o (omega arith); mapped = λ o l. f.mapped o (omega arith) }

@@ -96,7 +96,7 @@ last_of [] = []
 last_of (c ∷ []) = c
 last_of (c ∷ d ∷ ds) = last_of (d ∷ ds)
 
--- the number of an ordinal's child, 255 for none
-abbrev pub slot_of : List (List ℕ) → List ℕ → ℕ
-slot_of cs [] = 255
-slot_of cs (x ∷ c) = place_in cs (x ∷ c)
+-- the number of an ordinal's child
+abbrev pub slot_of : List (List ℕ) → List ℕ → Option ℕ
+slot_of cs [] = None
+slot_of cs (x ∷ c) = Some (place_in cs (x ∷ c))

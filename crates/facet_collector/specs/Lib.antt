@@ -4,3 +4,4 @@ pub mod Sums
 pub mod Children
 pub mod Counting
 pub mod Requests
+pub mod Requested

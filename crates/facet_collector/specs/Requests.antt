@@ -1,13 +1,8 @@
 -- Requested facets by their encodings, and a cursor among them. Assumes nothing.
-use Rattle.std.specs.Prelude.{◌≡◌, ℕ, ◌<◌, ◌≤◌, List, [], map, length, take, Some, None, Option, ◌≢◌, slice_index, slice_index_or}
+use Rattle.std.specs.Prelude.{◌≡◌, ℕ, ◌<◌, ◌≤◌, List, [], length, take, Some, None, Option, ◌≢◌, slice_index_or}
 use Rattle.std.specs.declared.cmp.Ordering.TheVariants.{Greater}
-use Rattle.facet.specs.Facets.{encoded_of}
 use Rattle.facet.specs.Paths.{depth, order}
-use Rattle.facet.specs.declared.encoded.Facet.{Facet}
-use Rattle.facet_collector.specs.Children.{request_of, leads, children, collapsed, first_below, last_of, slot_of}
-
-abbrev pub encodings : List Facet → List (List ℕ)
-encodings fs = map encoded_of fs
+use Rattle.facet_collector.specs.Children.{request_of, leads, children, collapsed, first_below, last_of, nothing, slot_of}
 
 -- the first `at` of them do not stand behind the term, and the next does
 pub record Sought (rs : List (List ℕ)) (t : List ℕ) (at : ℕ) : Type 0 where
@@ -15,11 +10,12 @@ pub record Sought (rs : List (List ℕ)) (t : List ℕ) (at : ℕ) : Type 0 wher
   pub passed : (k : ℕ) → k < at → order (slice_index_or rs k []) t ≢ Greater
   pub past : at < length rs → order (slice_index_or rs at []) t ≡ Greater
 
--- where in a term the child ends that it leads to, 0 for none, and the requested facet's depth
+-- where in a term the child ends that it leads to, and the requested facet's depth
 pub record Ends (rs : List (List ℕ)) (t : List ℕ) (end deep : ℕ) : Type 0 where
   pub child : take end t ≡ leads rs t
   pub length_is : end ≡ length (leads rs t)
-  pub request : 0 < end → (r : List ℕ) × (request_of rs t ≡ Some r) × (deep ≡ depth r)
+  pub some : 0 < end
+  pub request : (r : List ℕ) × (request_of rs t ≡ Some r) × (deep ≡ depth r)
 
 -- where a walk over the terms stands before term i: `at` requested facets do not stand behind what comes; there are n children so far, the last
 -- is `child`, and `first` is the first ordinal at or below it
@@ -32,12 +28,12 @@ pub record Walked (rs ts : List (List ℕ)) (i at n : ℕ) (child : List ℕ) (f
   pub begun : 0 < length child → first ≡ first_below ts child
 
 -- what is told of term i: nothing, or what its ordinal maps to and the number of its child
-abbrev pub Told : List (List ℕ) → List (List ℕ) → ℕ → Option (ℕ × ℕ × ℕ) → Type 0
+abbrev pub Told : List (List ℕ) → List (List ℕ) → ℕ → Option ((ℕ × ℕ) × ℕ) → Type 0
 Told rs ts i None = length (leads rs (slice_index_or ts i [])) ≡ 0
-Told rs ts i (Some m) = (◌≡◌ {A = ℕ × ℕ} (m.0, m.1) (collapsed rs ts i)) × (m.2 ≡ slot_of (children rs ts) (leads rs (slice_index_or ts i [])))
+Told rs ts i (Some m) = (m.0 ≡ collapsed rs ts i) × (Some m.1 ≡ slot_of (children rs ts) (leads rs (slice_index_or ts i [])))
 
--- the tables of a child that was opened for terms: each ordinal's child by its number, and what the ordinal maps to
-pub record Mapping (rs ts : List (List ℕ)) (mapping : List (ℕ × ℕ)) (slots : List ℕ) : Type 0 where
+-- what the ordinals of terms are collapsed to: each one's child by its number, and what the ordinal maps to
+pub record Collapses (rs ts : List (List ℕ)) (mapping : List (ℕ × ℕ)) (slots : List (Option ℕ)) : Type 0 where
   pub few : length (children rs ts) ≤ 128
-  pub slotted : (o : ℕ) → o < length ts → slice_index slots o ≡ slot_of (children rs ts) (leads rs (slice_index_or ts o []))
-  pub mapped : (o : ℕ) → o < length ts → slice_index_or mapping o (0, 0) ≡ collapsed rs ts o
+  pub slotted : (o : ℕ) → o < length ts → slice_index_or slots o None ≡ slot_of (children rs ts) (leads rs (slice_index_or ts o []))
+  pub mapped : (o : ℕ) → o < length ts → slice_index_or mapping o nothing ≡ collapsed rs ts o

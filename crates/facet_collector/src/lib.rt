@@ -2,3 +2,4 @@
 #![tactic(auto)]
 
 mod collapse;
+mod requests;

@@ -1,26 +1,11 @@
-use Rattle.std.proofs.Common.{sym, ap, ◌∙◌, arith, below_more}
-use Rattle.facet.specs.Facets.{encoded_of}
-use Rattle.facet.specs.Paths.{order}
-use Rattle.std.proofs.lemmas.List.{length-map}
-use Rattle.facet_collector.proofs.Seeks.{encoding_at, gt_not, gt_is}
+use Rattle.std.proofs.Common.{sym, ◌∙◌}
+use Rattle.facet_collector.proofs.Seeks.{sought_some, sought_none}
 use Rattle.facet_collector.proofs.collapse.seek.Goals as goal
 
-pub loop-at-preserved : goal.loop-at-preserved
-loop-at-preserved c =
-    let e = encoding_at c.args.requests.now c.loop-at.at c.index-requests-at.result c.loop-at-test.true c.index-requests-at.is in
-    (omega arith, below_more _ _ c.loop-at.invariant.1 (λ g. gt_not _ c.if-not-is_behind.ensures (ap (λ f. order f c.args.term.now) (sym e) ∙ g)))
+pub returns-in-Some : goal.returns-in-Some
+returns-in-Some c =
+    record { sought = sought_some _ _ c.as_slice-facets.ensures.value _ _ c.requires.within c.requires.passed _ (sym c.first_behind.ensures ∙ c.in-Some.is); requestable = c.as_slice-facets.ensures.requestable }
 
-pub returns-else-not-is_behind : goal.returns-else-not-is_behind
-returns-else-not-is_behind c =
-    let e = encoding_at c.args.requests.now c.loop-at.at c.index-requests-at.result c.loop-at-test.true c.index-requests-at.is in
-    let l = length-map c.args.requests.now encoded_of in
-    record {
-      within = omega (arith, c.loop-at.invariant.0);
-      passed = c.loop-at.invariant.1;
-      past = λ _. ap (λ f. order f c.args.term.now) e ∙ gt_is _ c.if-not-is_behind.ensures;
-    }
-
-pub returns-after-loop-at : goal.returns-after-loop-at
-returns-after-loop-at c =
-    let l = length-map c.args.requests.now encoded_of in
-    record { within = omega (arith, c.loop-at.invariant.0); passed = c.loop-at.invariant.1; past = λ h. absurd (omega (arith, c.loop-at-test.false)) }
+pub returns-in-None : goal.returns-in-None
+returns-in-None c =
+    record { sought = sought_none _ _ c.as_slice-facets.ensures.value _ _ c.requires.within c.requires.passed (sym c.first_behind.ensures ∙ c.in-None.is); requestable = c.as_slice-facets.ensures.requestable }
