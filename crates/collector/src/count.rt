@@ -14,15 +14,12 @@ use segment::Segment;
 pub(crate) fn merge_counts(left: &u32, right: &u32) -> Result<u32, CollectingFault>
     ensures { result ≡ merged count_m left.now right.now }
 {
-    match left.checked_add(*right) {
-        Some(sum) => Ok(sum),
-        None => Err(CollectingFault::Unfit),
-    }
+    left.checked_add(*right).ok_or(CollectingFault::Unfit)
 }
 
 // Counts all documents.
-#[derive(Clone, Copy)]
-pub struct Count {}
+#[derive(Clone, Copy, Debug, Default)]
+pub struct Count;
 
 impl Collector for Count {
     type Child = u32;

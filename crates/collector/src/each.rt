@@ -40,11 +40,8 @@ pub fn collect_blocks<C: Collector>(
     ensures unscored { AnyScores (C.Collector.meaning collector.now) ordinal (contents segment.now) docs.now (result_map_both C.Collector.value (λ e. e) result) }
 {
     let mut child = collector.for_segment(ordinal, segment)?;
-    let mut from = 0;
-    while from < docs.len() {
-        let len = COLLECT_BLOCK_BUFFER_LEN.min(docs.len() - from);
-        collector.collect_block(segment, &mut child, &docs[from..from + len])?;
-        from += len;
+    for block in docs.chunks(COLLECT_BLOCK_BUFFER_LEN) {
+        collector.collect_block(segment, &mut child, block)?;
     }
     Ok(collector.harvest(segment, child))
 }
