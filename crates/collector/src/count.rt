@@ -10,7 +10,8 @@ use crate::fault::{CollectingFault, OpeningFault};
 use docset::DocId;
 use segment::Segment;
 
-// The sum of two counts, where it fits.
+// The sum of two counts, where it fits. This is all that `Count` and `Floor` share in code: one impl for both would be
+// for every type that tests scores, and would overlap with those of tuples.
 pub(crate) fn merge_counts(left: &u32, right: &u32) -> Result<u32, CollectingFault>
     ensures { result ≡ merged count_m left.now right.now }
 {

@@ -64,10 +64,11 @@ impl<C: Collector> Collector for Switch<C> {
         ordinal: u32,
         segment: &Segment,
     ) -> Result<Option<C::Child>, OpeningFault> {
-        if !self.on {
-            return Ok(None);
+        if self.on {
+            self.inner.for_segment(ordinal, segment).map(Some)
+        } else {
+            Ok(None)
         }
-        self.inner.for_segment(ordinal, segment).map(Some)
     }
 
     fn would_fit(
@@ -77,6 +78,7 @@ impl<C: Collector> Collector for Switch<C> {
         doc: DocId,
         score: f32,
     ) -> bool {
+        // A match: through `is_none_or` the fit stays open.
         match child {
             Some(inner) => self.inner.would_fit(segment, inner, doc, score),
             None => true,
