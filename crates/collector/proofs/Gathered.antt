@@ -1,7 +1,7 @@
 -- Documents that are gathered one behind the other. Assumes nothing.
-use Rattle.std.proofs.Common.{◌≡◌, ℕ, suc, ◌+◌, ◌-◌, ◌<◌, ◌≤◌, List, [], ◌∷◌, ◌++◌, length, get_or, take, drop, Some, None, Ok, Err, Option, Result, sym, refl, ap, ◌∙◌, subst, arith, take-add}
+use Rattle.std.proofs.Common.{◌≡◌, ℕ, suc, ◌+◌, ◌<◌, ◌≤◌, List, [], ◌∷◌, ◌++◌, length, get_or, take, drop, Some, None, Ok, Err, Option, Result, sym, refl, ap, ◌∙◌, subst, arith, take-add}
 use lib.Ieee.{Float}
-use Rattle.std.proofs.lemmas.List.{drop-map, drop_more, take_all, take-append-drop, take-map}
+use Rattle.std.proofs.lemmas.List.{append-nil, drop-map, map-append, drop_more, take_all, take-append-drop, take-map}
 use Rattle.docset.specs.Pairs.{zero_score}
 use Rattle.segment.specs.Columns.{asked}
 use Rattle.collector.specs.declared.fault.CollectingFault.{CollectingFault}
@@ -69,15 +69,28 @@ module _ {V : Type 0} (m : Meaning V) (n : ℕ) (s : Contents) where
     pub front_whole : length ps ≤ i → Collects m opened held n s (take i ps) a b (Ok tt) → Collects m opened held n s ps a b (Ok tt)
     front_whole l h = subst (λ xs. Collects m opened held n s xs a b (Ok tt)) (take_all i ps l) h
 
+  -- ---- documents block by block
+
+  module _ {K : Type 0} (opened : K → Type 0) (held : K → V) (front : List ℕ) (a b : K) where
+    pub block_more : (ds : List ℕ) (c : K) (r : Result Unit CollectingFault) → Collects m opened held n s (block front) a b (Ok tt) → Collects m opened held n s (block ds) b c r → Collects m opened held n s (block (front ++ ds)) a c r
+    block_more ds c r h l =
+        subst (λ xs. Collects m opened held n s xs a c r) (sym (map-append (λ d. (d, zero_score)) front ds)) (collects_then opened held (block front) (block ds) a b c r h l)
+
+    pub block_stops : (ds back : List ℕ) (x : CollectingFault) → ds ≡ front ++ back → Collects m opened held n s (block front) a b (Err x) → Collects m opened held n s (block ds) a b (Err x)
+    block_stops ds back x e h =
+        let is = ap block e ∙ map-append (λ d. (d, zero_score)) front back in
+        subst (λ xs. Collects m opened held n s xs a b (Err x)) (sym is) (collects_stops opened held (block front) (block back) a b x h)
+
+    pub block_whole : (ds back : List ℕ) → ds ≡ front ++ back → length back ≡ 0 → Collects m opened held n s (block front) a b (Ok tt) → Collects m opened held n s (block ds) a b (Ok tt)
+    block_whole ds [] e l h = subst (λ xs. Collects m opened held n s (block xs) a b (Ok tt)) (sym (e ∙ append-nil front)) h
+    block_whole ds (d ∷ back) e l h = absurd (omega arith)
+
 pub one_pair : (ps : List (ℕ × Float)) (i : ℕ) (d : ℕ × Float) → i < length ps → get_or ps i d ∷ [] ≡ take 1 (drop i ps)
 one_pair ps i d h = sym (ap (take 1) (drop_more ps i d h))
 
 -- a part of a block is the block of that part
 block_part : (ds : List ℕ) (i k : ℕ) → block (take k (drop i ds)) ≡ take k (drop i (block ds))
 block_part ds i k = let f : ℕ → ℕ × Float = λ d. (d, zero_score) in sym (take-map f k (drop i ds)) ∙ ap (take k) (sym (drop-map f i ds))
-
-pub slice_part : (ds : List ℕ) (i k : ℕ) → block (take (i + k - i) (drop i ds)) ≡ take k (drop i (block ds))
-slice_part ds i k = let e : i + k - i ≡ k = omega arith in ap (λ j. block (take j (drop i ds))) e ∙ block_part ds i k
 
 pub one_doc : (ds : List ℕ) (i : ℕ) → i < length ds → (get_or ds i 0, zero_score) ∷ [] ≡ take 1 (drop i (block ds))
 one_doc ds i h = ap block (sym (ap (take 1) (drop_more ds i 0 h))) ∙ block_part ds i 1

@@ -1,5 +1,5 @@
 -- What the calls of a collector answer. Assumes nothing.
-use Rattle.std.specs.Prelude.{◌≡◌, ℕ, cond, List, [], ◌∷◌, map, Some, None, Ok, Err, Option, Result, nat_lt, Float}
+use Rattle.std.specs.Prelude.{◌≡◌, ℕ, Bool, cond, List, [], ◌∷◌, map, Some, None, Ok, Err, Option, Result, nat_lt, Float}
 use Rattle.docset.specs.Pairs.{zero_score}
 use Rattle.segment.specs.Columns.{asked}
 use Rattle.collector.specs.declared.fault.CollectingFault.{CollectingFault}
@@ -17,9 +17,13 @@ Opens m opened held s (Err e) = m.refusal s ≡ Some e
 abbrev pub more : {V : Type 0} → Meaning V → ℕ → Contents → V → ℕ × Float → V
 more m n s v p = m.join v (m.worth n s p.0 p.1)
 
+-- whether that fits
+abbrev pub more_fits : {V : Type 0} → Meaning V → ℕ → Contents → V → ℕ × Float → Bool
+more_fits m n s v p = m.fits (more m n s v p)
+
 -- why a fruit that means v refuses a document: it is not in the segment, or the fruit with it would not fit
 abbrev pub collecting_fault : {V : Type 0} → Meaning V → ℕ → Contents → V → ℕ × Float → Option CollectingFault
-collecting_fault m n s v p = cond (nat_lt p.0 s.docs) (cond (m.fits (more m n s v p)) None (Some Unfit)) (Some NoDocument)
+collecting_fault m n s v p = cond (nat_lt p.0 s.docs) (cond (more_fits m n s v p) None (Some Unfit)) (Some NoDocument)
 
 -- what is left at the first refusal
 abbrev pub unless : {V : Type 0} → Option CollectingFault → V → V × Option CollectingFault → V × Option CollectingFault

@@ -21,12 +21,15 @@ pair_of a b c = pair_m (a c.0) (b c.1)
 abbrev pub same_pair : {A B : Type 0} → (A → A → Bool) → (B → B → Bool) → A × B → A × B → Bool
 same_pair a b c d = a c.0 d.0 && b c.1 d.1
 
--- a triple means the pair of its first and the pair of the others
+-- a triple, seen as the pair of its first and the pair of the others
+abbrev pub nested : {A B C : Type 0} → A × B × C → A × (B × C)
+nested t = (t.0, (t.1, t.2))
+
 abbrev pub triple_of : {A B C U V W : Type 0} → (A → Meaning U) → (B → Meaning V) → (C → Meaning W) → A × B × C → Meaning (U × (V × W))
-triple_of a b c t = pair_m (a t.0) (pair_m (b t.1) (c t.2))
+triple_of a b c t = pair_of a (pair_of b c) (nested t)
 
 abbrev pub same_triple : {A B C : Type 0} → (A → A → Bool) → (B → B → Bool) → (C → C → Bool) → A × B × C → A × B × C → Bool
-same_triple a b c t u = a t.0 u.0 && (b t.1 u.1 && c t.2 u.2)
+same_triple a b c t u = same_pair a (same_pair b c) (nested t) (nested u)
 
 -- a test of what is there, and else a given answer
 abbrev pub when_some : {V : Type 0} → Option V → Bool → (V → Bool) → Bool

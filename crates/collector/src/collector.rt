@@ -2,7 +2,7 @@
 ghost use Rattle.std.specs.Prelude.{◌≡◌, ℕ, Bool, true, [], ◌∷◌, OnErr};
 ghost use Rattle.std.specs.Result.{result_map_both};
 ghost use Rattle.segment.specs.declared.segment.Segment.{Segment as Seg};
-ghost use Rattle.collector.specs.Collecting.{Opens, Adds, Collects, more, block, merged};
+ghost use Rattle.collector.specs.Collecting.{Opens, Adds, Collects, more_fits, block, merged};
 ghost use Rattle.collector.specs.Contents.{contents};
 ghost use Rattle.collector.specs.Meaning.{Meaning, Laws};
 ghost use Rattle.collector.specs.Parts.{Parted};
@@ -45,12 +45,12 @@ pub trait Collector {
 
     // Whether the child's fruit with the document would fit.
     fn would_fit(&self, segment: &Segment, child: &Self::Child, doc: DocId, score: f32) -> bool
-        ensures { (n : ℕ) → opened self.now n segment.now child.now → result ≡ (meaning self.now).fits (more (meaning self.now) n (contents segment.now) (held self.now segment.now child.now) (doc, score)) };
+        ensures { (n : ℕ) → opened self.now n segment.now child.now → result ≡ more_fits (meaning self.now) n (contents segment.now) (held self.now segment.now child.now) (doc, score) };
 
     // Joins what a document is worth. It is meant for where the fruit with it fits: asking first lets a pair refuse
     // without undoing.
     fn add(&self, segment: &Segment, child: &mut Self::Child, doc: DocId, score: f32)
-        ensures { (n : ℕ) → opened self.now n segment.now child.old → (meaning self.now).fits (more (meaning self.now) n (contents segment.now) (held self.now segment.now child.old) (doc, score)) ≡ true → Adds (meaning self.now) (opened self.now n segment.now) (held self.now segment.now) n (contents segment.now) (doc, score) child.old child.new };
+        ensures { (n : ℕ) → opened self.now n segment.now child.old → more_fits (meaning self.now) n (contents segment.now) (held self.now segment.now child.old) (doc, score) ≡ true → Adds (meaning self.now) (opened self.now n segment.now) (held self.now segment.now) n (contents segment.now) (doc, score) child.old child.new };
 
     // Collects a document of the segment, where the fruit with it fits; else the child stays as it is.
     fn collect(

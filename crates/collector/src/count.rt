@@ -10,19 +10,17 @@ use crate::fault::{CollectingFault, OpeningFault};
 use docset::DocId;
 use segment::Segment;
 
-// The sum of two counts, where it fits.
+// The sum of two counts, where it fits. This is all that `Count` and `Floor` share in code: one impl for both would be
+// for every type that tests scores, and would overlap with those of tuples.
 pub(crate) fn merge_counts(left: &u32, right: &u32) -> Result<u32, CollectingFault>
     ensures { result ≡ merged count_m left.now right.now }
 {
-    match left.checked_add(*right) {
-        Some(sum) => Ok(sum),
-        None => Err(CollectingFault::Unfit),
-    }
+    left.checked_add(*right).ok_or(CollectingFault::Unfit)
 }
 
 // Counts all documents.
-#[derive(Clone, Copy)]
-pub struct Count {}
+#[derive(Clone, Copy, Debug, Default)]
+pub struct Count;
 
 impl Collector for Count {
     type Child = u32;

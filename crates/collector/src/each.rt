@@ -22,6 +22,7 @@ pub fn collect_each<C: Collector>(
     ensures parts { Alone C.Collector.places collector.now ordinal (contents segment.now) docs.now (result_map_both C.Collector.value (λ e. e) result) }
 {
     let mut child = collector.for_segment(ordinal, segment)?;
+    // A loop: a closure that changes the child would leave nothing known of it.
     for (doc, score) in docs {
         collector.collect(segment, &mut child, *doc, *score)?;
     }
@@ -40,11 +41,8 @@ pub fn collect_blocks<C: Collector>(
     ensures unscored { AnyScores (C.Collector.meaning collector.now) ordinal (contents segment.now) docs.now (result_map_both C.Collector.value (λ e. e) result) }
 {
     let mut child = collector.for_segment(ordinal, segment)?;
-    let mut from = 0;
-    while from < docs.len() {
-        let len = COLLECT_BLOCK_BUFFER_LEN.min(docs.len() - from);
-        collector.collect_block(segment, &mut child, &docs[from..from + len])?;
-        from += len;
+    for block in docs.chunks(COLLECT_BLOCK_BUFFER_LEN) {
+        collector.collect_block(segment, &mut child, block)?;
     }
     Ok(collector.harvest(segment, child))
 }

@@ -3,13 +3,16 @@ ghost use Rattle.std.specs.Prelude.{◌≡◌};
 ghost use Rattle.collector.specs.Faults.{opening_number, collecting_number, collector_number, floor_number};
 ghost use Rattle.collector.specs.declared.fault.CollectorFault.TheVariants.{Opening as OpeningOf, Collecting as CollectingOf};
 
-use std::fmt;
+use thiserror::Error;
 
 // Why a collector refuses a segment.
-#[derive(Clone, Copy, Debug, PartialEq, Eq)]
+#[derive(Clone, Copy, Debug, PartialEq, Eq, Error)]
 pub enum OpeningFault {
+    #[error("the segment has no field of that name")]
     NoField,
+    #[error("the field is no facet field")]
     NotFacets,
+    #[error("the requested facets have more than 128 children")]
     TooManyChildren,
 }
 
@@ -25,20 +28,12 @@ impl OpeningFault {
     }
 }
 
-impl fmt::Display for OpeningFault {
-    fn fmt<W: fmt::Write>(&self, f: &mut fmt::Formatter<W>) -> fmt::Result {
-        f.write_str(match self {
-            OpeningFault::NoField => "the segment has no field of that name",
-            OpeningFault::NotFacets => "the field is no facet field",
-            OpeningFault::TooManyChildren => { "the requested facets have more than 128 children" }
-        })
-    }
-}
-
 // Why a document is not collected, or two fruits are not joined.
-#[derive(Clone, Copy, Debug, PartialEq, Eq)]
+#[derive(Clone, Copy, Debug, PartialEq, Eq, Error)]
 pub enum CollectingFault {
+    #[error("the document is not below the segment's document number")]
     NoDocument,
+    #[error("the fruit would not fit")]
     Unfit,
 }
 
@@ -53,21 +48,12 @@ impl CollectingFault {
     }
 }
 
-impl fmt::Display for CollectingFault {
-    fn fmt<W: fmt::Write>(&self, f: &mut fmt::Formatter<W>) -> fmt::Result {
-        f.write_str(match self {
-            CollectingFault::NoDocument => {
-                "the document is not below the segment's document number"
-            }
-            CollectingFault::Unfit => "the fruit would not fit",
-        })
-    }
-}
-
 // Why a segment is not collected.
-#[derive(Clone, Copy, Debug, PartialEq, Eq)]
+#[derive(Clone, Copy, Debug, PartialEq, Eq, Error)]
 pub enum CollectorFault {
+    #[error(transparent)]
     Opening(OpeningFault),
+    #[error(transparent)]
     Collecting(CollectingFault),
 }
 
@@ -82,15 +68,8 @@ impl CollectorFault {
     }
 }
 
-impl fmt::Display for CollectorFault {
-    fn fmt<W: fmt::Write>(&self, f: &mut fmt::Formatter<W>) -> fmt::Result {
-        match self {
-            CollectorFault::Opening(fault) => write!(f, "{fault}"),
-            CollectorFault::Collecting(fault) => write!(f, "{fault}"),
-        }
-    }
-}
-
+// Both `From`s are written out: those of `#[from]` promise nothing, and the clauses of a collection name the fault that
+// `?` makes.
 impl From<OpeningFault> for CollectorFault {
     ghost from_gives = { λ e r. r ≡ OpeningOf e };
 
@@ -108,8 +87,9 @@ impl From<CollectingFault> for CollectorFault {
 }
 
 // Why there is no such floor.
-#[derive(Clone, Copy, Debug, PartialEq, Eq)]
+#[derive(Clone, Copy, Debug, PartialEq, Eq, Error)]
 pub enum FloorFault {
+    #[error("the floor is not a number")]
     NotANumber,
 }
 
@@ -120,13 +100,5 @@ impl FloorFault {
         match self {
             FloorFault::NotANumber => 25,
         }
-    }
-}
-
-impl fmt::Display for FloorFault {
-    fn fmt<W: fmt::Write>(&self, f: &mut fmt::Formatter<W>) -> fmt::Result {
-        f.write_str(match self {
-            FloorFault::NotANumber => "the floor is not a number",
-        })
     }
 }

@@ -15,7 +15,7 @@ use crate::fault::{CollectingFault, FloorFault, OpeningFault};
 use docset::DocId;
 use segment::Segment;
 
-#[derive(Clone, Copy)]
+#[derive(Clone, Copy, Debug)]
 pub struct Floor {
     floor: f32,
     ghost number: { is_nan floor ≡ false },

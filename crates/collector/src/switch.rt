@@ -12,7 +12,7 @@ use docset::DocId;
 use segment::Segment;
 
 // A yes or no beside its collector.
-#[derive(Clone, Copy, Drop)]
+#[derive(Clone, Copy, Debug, Drop)]
 pub struct Switch<C> {
     on: bool,
     inner: C,
@@ -64,11 +64,11 @@ impl<C: Collector> Collector for Switch<C> {
         ordinal: u32,
         segment: &Segment,
     ) -> Result<Option<C::Child>, OpeningFault> {
-        if !self.on {
-            return Ok(None);
+        if self.on {
+            self.inner.for_segment(ordinal, segment).map(Some)
+        } else {
+            Ok(None)
         }
-        let child = self.inner.for_segment(ordinal, segment)?;
-        Ok(Some(child))
     }
 
     fn would_fit(
@@ -78,6 +78,7 @@ impl<C: Collector> Collector for Switch<C> {
         doc: DocId,
         score: f32,
     ) -> bool {
+        // A match: through `is_none_or` the fit stays open.
         match child {
             Some(inner) => self.inner.would_fit(segment, inner, doc, score),
             None => true,
@@ -85,17 +86,13 @@ impl<C: Collector> Collector for Switch<C> {
     }
 
     fn add(&self, segment: &Segment, child: &mut Option<C::Child>, doc: DocId, score: f32) {
-        match child {
-            Some(inner) => self.inner.add(segment, inner, doc, score),
-            None => {}
+        if let Some(inner) = child {
+            self.inner.add(segment, inner, doc, score);
         }
     }
 
     fn harvest(&self, segment: &Segment, child: Option<C::Child>) -> Option<C::Fruit> {
-        match child {
-            Some(inner) => Some(self.inner.harvest(segment, inner)),
-            None => None,
-        }
+        child.map(|inner| self.inner.harvest(segment, inner))
     }
 
     fn merge_fruits(
@@ -107,10 +104,7 @@ impl<C: Collector> Collector for Switch<C> {
             return Ok(None);
         }
         match (left, right) {
-            (Some(a), Some(b)) => {
-                let fruit = self.inner.merge_fruits(a, b)?;
-                Ok(Some(fruit))
-            }
+            (Some(a), Some(b)) => self.inner.merge_fruits(a, b).map(Some),
             _ => Ok(None),
         }
     }

@@ -1,7 +1,9 @@
 -- Pairs whose documents rise. Assumes nothing.
-use Rattle.std.specs.Prelude.{◌≡◌, ℕ, zero, suc, ◌+◌, ◌<◌, ◌≤◌, Bool, true, false, cond, List, [], ◌∷◌, nat_lt, refl, Float}
-use Rattle.std.proofs.Common.{arith, lt-ltb}
-use Rattle.docset.specs.Pairs.{Rising, first_doc, all_from, rising_front, terminated}
+use Rattle.std.specs.Prelude.{◌≡◌, ℕ, zero, suc, ◌+◌, ◌<◌, ◌≤◌, true, List, length, refl, Float}
+use Rattle.std.specs.List.{zip}
+use Rattle.std.proofs.Common.{arith, lt-ltb, sym}
+use Rattle.std.proofs.lemmas.Slice.Zip.{firsts-zip}
+use Rattle.docset.specs.Pairs.{Rising, rises, first_doc, all_from, terminated}
 
 below_first : (d n : ℕ) → d + suc n ≤ terminated → d < first_doc (all_from (d + 1) n)
 below_first d zero h = omega arith
@@ -12,11 +14,6 @@ all_from_rising d zero h = refl
 all_from_rising d (suc n) h =
     let k = h (omega arith) in rw (lt-ltb d _ (below_first d n k)) (all_from_rising (d + 1) n (λ _. omega arith))
 
-pub front_rising : (ps : List (ℕ × Float)) → Rising (rising_front ps)
-front_rising [] = refl
-front_rising (p ∷ ps) = kept (nat_lt p.0 terminated) (nat_lt p.0 (first_doc (rising_front ps))) refl refl (front_rising ps)
-  where
-    kept : (a b : Bool) → nat_lt p.0 terminated ≡ a → nat_lt p.0 (first_doc (rising_front ps)) ≡ b → Rising (rising_front ps) → Rising (cond a (p ∷ cond b (rising_front ps) []) [])
-    kept false b e f r = refl
-    kept true true e f r = rw f r
-    kept true false e f r = rw e
+-- the documents of pairs are those that were zipped
+pub zip_rising : (ds : List ℕ) (ss : List Float) → rises ds ≡ true → length ds ≡ length ss → Rising (zip ds ss)
+zip_rising ds ss r e = rw (firsts-zip ds ss (sym e)) r

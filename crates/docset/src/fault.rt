@@ -2,11 +2,13 @@
 ghost use Rattle.std.specs.Prelude.{◌≡◌};
 ghost use Rattle.docset.specs.Faults.{number_of};
 
-use std::fmt;
+use thiserror::Error;
 
-#[derive(Clone, Copy, Debug, PartialEq, Eq)]
+#[derive(Clone, Copy, Debug, PartialEq, Eq, Error)]
 pub enum ScorerFault {
+    #[error("the documents do not rise strictly below 2147483647")]
     NotRising,
+    #[error("there are not as many scores as documents")]
     ScoreCount,
 }
 
@@ -18,14 +20,5 @@ impl ScorerFault {
             ScorerFault::NotRising => 26,
             ScorerFault::ScoreCount => 27,
         }
-    }
-}
-
-impl fmt::Display for ScorerFault {
-    fn fmt<W: fmt::Write>(&self, f: &mut fmt::Formatter<W>) -> fmt::Result {
-        f.write_str(match self {
-            ScorerFault::NotRising => "the documents do not rise strictly below 2147483647",
-            ScorerFault::ScoreCount => "there are not as many scores as documents",
-        })
     }
 }

@@ -33,13 +33,14 @@ pub trait DocSet {
         ensures rest { coming self.new ≡ drop result (coming self.old) }
     {
         let mut doc = self.doc();
-        let mut len = 0;
-        while len < COLLECT_BLOCK_BUFFER_LEN && doc != TERMINATED {
-            buffer[len] = doc;
-            len += 1;
+        for (i, slot) in buffer.iter_mut().enumerate() {
+            if doc == TERMINATED {
+                return i;
+            }
+            *slot = doc;
             doc = self.advance();
         }
-        len
+        COLLECT_BLOCK_BUFFER_LEN
     }
 }
 
@@ -54,6 +55,7 @@ pub fn count<S: Scorer>(scorer: &mut S) -> u32
     ensures number { result ≡ length (S.DocSet.coming scorer.old) }
     ensures none { S.DocSet.coming scorer.new ≡ [] }
 {
+    // A loop: `advance` answers the next document at once, and an iterator would have to remember it.
     let mut count = 0;
     let mut doc = scorer.doc();
     while doc != TERMINATED {
@@ -64,10 +66,10 @@ pub fn count<S: Scorer>(scorer: &mut S) -> u32
 }
 
 // The document at a place among those still to come, found block by block; or `TERMINATED`.
-pub fn doc_at<S: Scorer + Drop>(scorer: S, place: usize) -> DocId
+pub fn doc_at<S: Scorer + Drop>(mut scorer: S, place: usize) -> DocId
     ensures { result ≡ first_doc_of (drop place (docs_of (S.DocSet.coming scorer))) }
 {
-    let mut scorer = scorer;
+    // A loop: an iterator over blocks would lend the buffer that it writes next.
     let mut before = place;
     let mut buffer = [0; COLLECT_BLOCK_BUFFER_LEN];
     loop {
