@@ -9,8 +9,8 @@ use Rattle.std.specs.Ordering.{ordering_reverse}
 use Rattle.std.specs.List.{AllByRecursion}
 use Rattle.std.specs.Str.{bytes_eq}
 use Rattle.facet_collector.specs.Children.{leads, insert, insert_some, children_from, children, member, place_in, last_of}
-use Rattle.facet_collector.proofs.Sets.{Behind, Climbing, by_cases, order_trans, led}
-use Rattle.facet_collector.proofs.Sums.{is_false, order_self}
+use Rattle.facet_collector.proofs.Sets.{Behind, Climbing, order_trans, led}
+use Rattle.facet_collector.proofs.Sums.{is_false, order_self, by_cases}
 
 pub turned : (s t : List ℕ) → order s t ≡ Less → order t s ≡ Greater
 turned s t h = nat_list_cmp_total.antisymm t s ∙ ap ordering_reverse h

@@ -13,11 +13,7 @@ use Rattle.facet_collector.specs.Ascents.{is_strictly_sorted_by}
 use Rattle.facet_collector.specs.Children.{requestable, leads, insert, insert_some, children_from, children, member, ones}
 use Rattle.facet_collector.specs.Entries.{sound}
 use Rattle.facet_collector.proofs.Paths.{leads_sound, leads_is, flipped}
-
-pub by_cases : {A : Type 0} (P : A → Type 0) (o : Ordering) (a b c : A) → (o ≡ Less → P a) → (o ≡ Equal → P b) → (o ≡ Greater → P c) → P (by_order o a b c)
-by_cases P Less a b c f g h = f refl
-by_cases P Equal a b c f g h = g refl
-by_cases P Greater a b c f g h = h refl
+use Rattle.facet_collector.proofs.Sums.{by_cases, same_self}
 
 pub order_trans : (s t u : List ℕ) → order s t ≡ Less → order t u ≡ Less → order s u ≡ Less
 order_trans s t u = nat_list_cmp_total.trans s t u
@@ -57,9 +53,6 @@ pub children_climb : (rs ts : List (List ℕ)) → Climbing (children rs ts)
 children_climb rs ts = from_climbs rs [] ts tt
 
 -- ---- members
-
-same_refl : (c : List ℕ) → bytes_eq c c ≡ true
-same_refl c = (bytes_eq-Decides c c).1 refl
 
 swap_or : (a b c : Bool) → (a || (b || c)) ≡ (b || (a || c))
 swap_or true true c = refl
