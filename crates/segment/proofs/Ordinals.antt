@@ -12,7 +12,7 @@ use Rattle.segment.specs.declared.fault.ColumnFault.TheVariants.{TooLarge, TermE
 use Rattle.segment.specs.Columns.{ends_fault, full, after, rises, falls_from, terms_fault, rows_fault, fault_of, sound}
 use Rattle.segment.specs.Held.{terms_of, rows_of}
 use Rattle.segment.specs.Items.{start_of, end_of, items, first_failing}
-use Rattle.segment.proofs.Sounds.{mapped_none, none_from, row_within, short_terms, length_terms, length_rows}
+use Rattle.segment.proofs.Sounds.{mapped_none, none_from, short_terms, length_terms, length_rows}
 use Rattle.segment.proofs.Spans.{both_none, all_pass, item_at}
 
 is_less : (o : Ordering) → is_lt o ≡ true → o ≡ Less
@@ -50,10 +50,10 @@ rise_by row e i (suc n) h =
     let b = leb-true _ _ (after_passes 0 leb row (length row) (i + n) e (omega arith)) in
     let z : i + suc n ≡ i + n + 1 = omega arith in subst (λ j. get_or row i 0 ≤ get_or row j 0) (sym z) (omega arith)
 
-module _ (bytes ends rowEnds ordinals : List ℕ) (ok : sound bytes ends rowEnds ordinals ≡ true) where
-  faults : (cond (leb (length ends) 4096 && leb (length rowEnds) 65535) None (Some TooLarge) ≡ None) × (terms_fault bytes ends ≡ None) × (rows_fault rowEnds ordinals (length ends) ≡ None)
+module _ (bytes ends row_ends ordinals : List ℕ) (ok : sound bytes ends row_ends ordinals ≡ true) where
+  faults : (cond (leb (length ends) 4096 && leb (length row_ends) 65535) None (Some TooLarge) ≡ None) × (terms_fault bytes ends ≡ None) × (rows_fault row_ends ordinals (length ends) ≡ None)
   faults =
-      let (a, b) = both_none (cond (leb (length ends) 4096 && leb (length rowEnds) 65535) None (Some TooLarge)) _ (none_from (fault_of bytes ends rowEnds ordinals) ok) in
+      let (a, b) = both_none (cond (leb (length ends) 4096 && leb (length row_ends) 65535) None (Some TooLarge)) _ (none_from (fault_of bytes ends row_ends ordinals) ok) in
       let (p, q) = both_none (terms_fault bytes ends) _ b in (a, p, q)
 
   few_ends : length ends ≤ 4096
@@ -65,9 +65,9 @@ module _ (bytes ends rowEnds ordinals : List ℕ) (ok : sound bytes ends rowEnds
       let b = (both_none (option_map TermNotUtf8 (first_failing (λ i. utf8 (get_or (items ends bytes) i [])) 0 (length ends))) _ a).1 in
       mapped_none TermOrder _ (both_none (option_map EmptyStep (first_failing (λ i. full (steps (get_or (items ends bytes) i []))) 0 (length ends))) _ b).1
 
-  rows_none : (first_failing (λ i. ltb (get_or ordinals i 0) (length ends)) 0 (length ordinals) ≡ None) × (falls_from 0 (items rowEnds ordinals) ≡ None)
+  rows_none : (first_failing (λ i. ltb (get_or ordinals i 0) (length ends)) 0 (length ordinals) ≡ None) × (falls_from 0 (items row_ends ordinals) ≡ None)
   rows_none =
-      let a = (both_none (option_map RowEnds (ends_fault None rowEnds (length ordinals))) _ faults.2).1 in
+      let a = (both_none (option_map RowEnds (ends_fault None row_ends (length ordinals))) _ faults.2).1 in
       let (p, q) = both_none (option_map NoTerm (first_failing (λ i. ltb (get_or ordinals i 0) (length ends)) 0 (length ordinals))) _ a in
       (mapped_none NoTerm _ p, mapped_none OrdinalOrder _ q)
 
@@ -84,25 +84,25 @@ module _ (bytes ends rowEnds ordinals : List ℕ) (ok : sound bytes ends rowEnds
 
 module _ (c : Column) where
   pub terms_few : length (terms_of c) ≤ 4096
-  terms_few = let e = length_terms c in let l = few_ends c.term_bytes.now c.term_ends.now c.row_ends.now c.ordinals.now c.sound in omega arith
+  terms_few = let e = length_terms c in let l = few_ends c.terms.all.now c.terms.ends.now c.rows.ends.now c.rows.all.now c.sound in omega arith
 
   pub terms_ascend : (i j : ℕ) → i < j → j < length (terms_of c) → order (get_or (terms_of c) i []) (get_or (terms_of c) j []) ≡ Less
   terms_ascend i j l h =
       let e = length_terms c in
       let z : i + suc (j - i - 1) ≡ j = omega arith in
-      subst (λ k. order (get_or (terms_of c) i []) (get_or (terms_of c) k []) ≡ Less) z (ascend_by c.term_bytes.now c.term_ends.now c.row_ends.now c.ordinals.now c.sound i (j - i - 1) (omega arith))
+      subst (λ k. order (get_or (terms_of c) i []) (get_or (terms_of c) k []) ≡ Less) z (ascend_by c.terms.all.now c.terms.ends.now c.rows.ends.now c.rows.all.now c.sound i (j - i - 1) (omega arith))
 
   pub terms_short : (i : ℕ) → i < length (terms_of c) → length (get_or (terms_of c) i []) ≤ 127
-  terms_short i h = let e = length_terms c in short_terms c.term_bytes.now c.term_ends.now c.row_ends.now c.ordinals.now c.sound i (omega arith)
+  terms_short i h = let e = length_terms c in short_terms c.terms.all.now c.terms.ends.now c.rows.ends.now c.rows.all.now c.sound i (omega arith)
 
   -- every ordinal has a term
   pub ordinals_within : (d k : ℕ) → d < length (rows_of c) → k < length (get_or (rows_of c) d []) → get_or (get_or (rows_of c) d []) k 0 < length (terms_of c)
   ordinals_within d k h l =
       let e = length_terms c in
       let m = length_rows c in
-      let w = row_within c d (omega arith) in
-      let ends = c.row_ends.now in
-      let os = c.ordinals.now in
+      let w = c.rows.within d (omega arith) in
+      let ends = c.rows.ends.now in
+      let os = c.rows.all.now in
       let s = start_of ends d in
       let n = end_of ends d - s in
       let is = item_at 0 ends os d w.0 in
@@ -110,7 +110,7 @@ module _ (c : Column) where
       let rest = length-drop s os in
       let a : k < n = omega arith in
       let at : get_or (get_or (rows_of c) d []) k 0 ≡ get_or os (s + k) 0 = ap (λ (r : List ℕ). get_or r k 0) (sym is) ∙ get_or-take n (drop s os) k 0 a ∙ get_or-drop s os k 0 in
-      let b = ltb-true _ _ (from_zero (λ i. ltb (get_or os i 0) (length c.term_ends.now)) (length os) (s + k) (rows_none c.term_bytes.now c.term_ends.now c.row_ends.now c.ordinals.now c.sound).0 (omega arith)) in
+      let b = ltb-true _ _ (from_zero (λ i. ltb (get_or os i 0) (length c.terms.ends.now)) (length os) (s + k) (rows_none c.terms.all.now c.terms.ends.now c.rows.ends.now c.rows.all.now c.sound).0 (omega arith)) in
       omega arith
 
   -- the ordinals of a row do not fall
@@ -118,4 +118,4 @@ module _ (c : Column) where
   rows_rise d i j h l m =
       let z : i + (j - i) ≡ j = omega arith in
       subst (λ k. get_or (get_or (rows_of c) d []) i 0 ≤ get_or (get_or (rows_of c) d []) k 0) z
-      (rise_by (get_or (rows_of c) d []) (none_falls 0 (rows_of c) d (rows_none c.term_bytes.now c.term_ends.now c.row_ends.now c.ordinals.now c.sound).1 h) i (j - i) (omega arith))
+      (rise_by (get_or (rows_of c) d []) (none_falls 0 (rows_of c) d (rows_none c.terms.all.now c.terms.ends.now c.rows.ends.now c.rows.all.now c.sound).1 h) i (j - i) (omega arith))

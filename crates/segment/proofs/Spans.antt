@@ -4,7 +4,7 @@ use Rattle.std.proofs.lemmas.List.{at_drop_more}
 use Rattle.std.proofs.lemmas.Bool.{leb-true, eqb-true, and_parts}
 use Rattle.std.specs.Option.{option_map, option_or}
 use Rattle.segment.specs.Columns.{short, end_fits, ends_fault, after, falls_from}
-use Rattle.segment.specs.Items.{start_of, end_of, items_from, items, last_end, first_failing, Within}
+use Rattle.segment.specs.Items.{start_of, end_of, items_from, items, last_end, first_failing, Within, AllWithin}
 
 pub length_items : {X : Type 0} (s : ℕ) (es : List ℕ) (xs : List X) → length (items_from s es xs) ≡ length es
 length_items s [] xs = refl
@@ -60,7 +60,7 @@ module _ (limit : Option ℕ) (ends : List ℕ) (total : ℕ) (ok : ends_fault l
       let b : start_of ends (i + k) ≤ end_of ends (i + k) = leb-true (start_of ends (i + k)) (end_of ends (i + k)) (passes (i + k) (omega arith)).0 in
       subst (λ (m : ℕ). start_of ends i ≤ start_of ends m) (sym z) (omega arith)
 
-  pub all_within : (i : ℕ) → i < length ends → Within ends total i
+  pub all_within : AllWithin ends total
   all_within i h =
       let a = leb-true (start_of ends i) (end_of ends i) (passes i h).0 in
       let z : suc i + (length ends - suc i) ≡ length ends = omega arith in
@@ -84,9 +84,12 @@ row_ends ends ordinals i w =
     omega arith
 
 -- what the row at i says
-pub falls_at : (s : ℕ) (rows : List (List ℕ)) (i : ℕ) (row : List ℕ) (o : Option ℕ) → i < length rows → row ≡ get_or rows i [] → o ≡ first_failing (after 0 leb row) 0 (length row)
-    → falls_from s (drop i rows) ≡ option_or (option_map (λ k. s + k) o) (falls_from (s + length (get_or rows i [])) (drop (i + 1) rows))
-falls_at s rows i row o h e q =
-    at_drop_more (falls_from s) rows i [] h
-    ∙ ap (λ (r : List ℕ). option_or (option_map (λ k. s + k) (first_failing (after 0 leb r) 0 (length r))) (falls_from (s + length (get_or rows i [])) (drop (i + 1) rows))) (sym e)
-    ∙ ap (λ (p : Option ℕ). option_or (option_map (λ k. s + k) p) (falls_from (s + length (get_or rows i [])) (drop (i + 1) rows))) (sym q)
+pub falls_at : (ends ordinals : List ℕ) (i : ℕ) (row : List ℕ) (start : ℕ) (o : Option ℕ) → Within ends (length ordinals) i → row ≡ get_or (items ends ordinals) i [] → start ≡ start_of ends i
+    → o ≡ option_map (λ k. start + k) (first_failing (after 0 leb row) 0 (length row))
+    → falls_from (start_of ends i) (drop i (items ends ordinals)) ≡ option_or o (falls_from (start_of ends (i + 1)) (drop (i + 1) (items ends ordinals)))
+falls_at ends ordinals i row start o w e s q =
+    let rows = items ends ordinals in
+    let h : i < length rows = let l = length_items 0 ends ordinals in let k = w.0 in omega arith in
+    at_drop_more (falls_from (start_of ends i)) rows i [] h
+    ∙ (λ j. option_or (option_map (λ k. sym s j + k) (first_failing (after 0 leb (sym e j)) 0 (length (sym e j)))) (falls_from (row_ends ends ordinals i w j) (drop (i + 1) rows)))
+    ∙ ap (λ (p : Option ℕ). option_or p (falls_from (start_of ends (i + 1)) (drop (i + 1) rows))) (sym q)

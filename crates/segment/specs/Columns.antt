@@ -1,6 +1,7 @@
 -- A column by its four tables: its terms, its rows, and the questions that are asked of it. Assumes nothing.
-use Rattle.std.specs.Prelude.{ℕ, ◌+◌, ◌-◌, Bool, true, cond, not, ◌&&◌, ◌||◌, ltb, leb, List, [], ◌∷◌, length, is_some, Some, None, Ok, Err, Option, Result, ◌==◌, nat_le, nat_lt, slice_index, slice_index_or}
+use Rattle.std.specs.Prelude.{ℕ, ◌+◌, ◌-◌, Bool, true, cond, not, ◌&&◌, ◌||◌, ltb, leb, List, [], ◌∷◌, length, is_some, Some, None, Ok, Err, Option, Result, ◌==◌, nat_le, slice_index, slice_index_or}
 use Rattle.facet.specs.Paths.{steps, order}
+use Rattle.std.specs.List.{list_all}
 use Rattle.std.specs.Option.{option_map, option_or}
 use Rattle.std.specs.Ordering.{is_lt}
 use Rattle.utf8.specs.Octets.{utf8}
@@ -24,8 +25,7 @@ ends_fault limit ends total = option_or (first_failing (end_fits limit ends) 0 (
 
 -- each of the steps has a byte
 abbrev pub full : List (List ℕ) → Bool
-full [] = true
-full (s ∷ ss) = nat_lt 0 (length s) && full ss
+full parts = list_all (λ part. not (length part == 0)) parts
 
 -- the first is asked nothing, any other to pass a test with the one before
 abbrev pub after : {X : Type 0} → X → (X → X → Bool) → List X → ℕ → Bool
@@ -41,26 +41,29 @@ falls_from n (r ∷ rs) = option_or (option_map (λ k. n + k) (first_failing (af
 
 -- ---- the questions, in their order
 
--- the terms: their ends, that each is UTF-8, has no empty step, and is greater than the one before
-abbrev pub terms_fault : List ℕ → List ℕ → Option ColumnFault
-terms_fault bytes ends =
-    option_or (option_map TermEnds (ends_fault (Some 127) ends (length bytes)))
-    (option_or (option_map TermNotUtf8 (first_failing (λ i. utf8 (slice_index_or (items ends bytes) i [])) 0 (length ends)))
+-- each term: that it is UTF-8, has no empty step, and is greater than the one before
+abbrev pub each_fault : List ℕ → List ℕ → Option ColumnFault
+each_fault bytes ends =
+    option_or (option_map TermNotUtf8 (first_failing (λ i. utf8 (slice_index_or (items ends bytes) i [])) 0 (length ends)))
     (option_or (option_map EmptyStep (first_failing (λ i. full (steps (slice_index_or (items ends bytes) i []))) 0 (length ends)))
-    (option_map TermOrder (first_failing (after [] rises (items ends bytes)) 0 (length ends)))))
+    (option_map TermOrder (first_failing (after [] rises (items ends bytes)) 0 (length ends))))
+
+-- the terms: their ends, and then each term
+abbrev pub terms_fault : List ℕ → List ℕ → Option ColumnFault
+terms_fault bytes ends = option_or (option_map TermEnds (ends_fault (Some 127) ends (length bytes))) (each_fault bytes ends)
 
 -- the rows: their ends, that each ordinal has a term, and that none falls within its row
 abbrev pub rows_fault : List ℕ → List ℕ → ℕ → Option ColumnFault
-rows_fault rowEnds ordinals terms =
-    option_or (option_map RowEnds (ends_fault None rowEnds (length ordinals)))
+rows_fault row_ends ordinals terms =
+    option_or (option_map RowEnds (ends_fault None row_ends (length ordinals)))
     (option_or (option_map NoTerm (first_failing (λ i. ltb (slice_index ordinals i) terms) 0 (length ordinals)))
-    (option_map OrdinalOrder (falls_from 0 (items rowEnds ordinals))))
+    (option_map OrdinalOrder (falls_from 0 (items row_ends ordinals))))
 
 -- the first question that is answered no; the first of all is whether there are at most 4096 terms and 65535 rows
 abbrev pub fault_of : List ℕ → List ℕ → List ℕ → List ℕ → Option ColumnFault
-fault_of bytes ends rowEnds ordinals =
-    option_or (cond (nat_le (length ends) 4096 && nat_le (length rowEnds) 65535) None (Some TooLarge))
-    (option_or (terms_fault bytes ends) (rows_fault rowEnds ordinals (length ends)))
+fault_of bytes ends row_ends ordinals =
+    option_or (cond (nat_le (length ends) 4096 && nat_le (length row_ends) 65535) None (Some TooLarge))
+    (option_or (terms_fault bytes ends) (rows_fault row_ends ordinals (length ends)))
 
 -- a fault is refused, and nothing else
 abbrev pub asked : {E : Type 0} → Option E → Result (Unit {0}) E
@@ -69,4 +72,4 @@ asked (Some e) = Err e
 
 -- every question is answered yes
 abbrev pub sound : List ℕ → List ℕ → List ℕ → List ℕ → Bool
-sound bytes ends rowEnds ordinals = not (is_some (fault_of bytes ends rowEnds ordinals))
+sound bytes ends row_ends ordinals = not (is_some (fault_of bytes ends row_ends ordinals))

@@ -1,18 +1,26 @@
 -- What a column holds. Assumes nothing.
-use Rattle.std.specs.Prelude.{◌≡◌, ℕ, cond, List, []}
+use Rattle.std.specs.Prelude.{◌≡◌, ℕ, cond, List, [], Result, IfOk}
+use Rattle.std.specs.Result.{result_err}
 use Rattle.segment.specs.declared.column.Column.{Column}
-use Rattle.segment.specs.Columns.{sound}
+use Rattle.segment.specs.declared.fault.ColumnFault.{ColumnFault}
+use Rattle.segment.specs.Columns.{fault_of, sound}
 use Rattle.segment.specs.Items.{items}
 
 -- its terms, by ordinal
 abbrev pub terms_of : Column → List (List ℕ)
-terms_of c = items c.term_ends.now c.term_bytes.now
+terms_of c = items c.terms.ends.now c.terms.all.now
 
 -- the ordinals of each document
 abbrev pub rows_of : Column → List (List ℕ)
-rows_of c = items c.row_ends.now c.ordinals.now
+rows_of c = items c.rows.ends.now c.rows.all.now
 
 -- it has these tables where they are sound, and else empty ones
-pub record TablesOf (c : Column) (bytes ends rowEnds ordinals : List ℕ) : Type 0 where
-  pub terms : terms_of c ≡ cond (sound bytes ends rowEnds ordinals) (items ends bytes) []
-  pub rows : rows_of c ≡ cond (sound bytes ends rowEnds ordinals) (items rowEnds ordinals) []
+pub record TablesOf (c : Column) (bytes ends row_ends ordinals : List ℕ) : Type 0 where
+  pub terms : terms_of c ≡ cond (sound bytes ends row_ends ordinals) (items ends bytes) []
+  pub rows : rows_of c ≡ cond (sound bytes ends row_ends ordinals) (items row_ends ordinals) []
+
+-- the column that has these tables, or the first question that they fail
+pub record Tried (r : Result Column ColumnFault) (bytes ends row_ends ordinals : List ℕ) : Type 0 where
+  pub fault : result_err r ≡ fault_of bytes ends row_ends ordinals
+  pub terms : IfOk r (λ c. terms_of c ≡ items ends bytes)
+  pub rows : IfOk r (λ c. rows_of c ≡ items row_ends ordinals)

@@ -28,3 +28,7 @@ first_failing test i (suc n) = cond (test i) (first_failing test (suc i) n) (Som
 -- item i stands within n
 abbrev pub Within : List ℕ → ℕ → ℕ → Type 0
 Within ends n i = (i < length ends) × (start_of ends i ≤ end_of ends i) × (end_of ends i ≤ n)
+
+-- each item does
+abbrev pub AllWithin : List ℕ → ℕ → Type 0
+AllWithin ends n = (i : ℕ) → i < length ends → Within ends n i

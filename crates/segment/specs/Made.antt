@@ -1,10 +1,12 @@
 -- What a segment holds. Assumes nothing.
-use Rattle.std.specs.Prelude.{◌≡◌, ℕ, zero, suc, Bool, true, false, cond, ◌&&◌, List, [], ◌∷◌, None, Option, nat_lt}
+use Rattle.std.specs.Prelude.{◌≡◌, ℕ, zero, suc, Bool, true, false, cond, ◌&&◌, List, [], ◌∷◌, None, Option, MatchOption, nat_lt}
 use Rattle.std.specs.Borrow.{Bor}
+use Rattle.segment.specs.declared.column.Column.{Column}
 use Rattle.segment.specs.declared.field.Field.{Field}
 use Rattle.segment.specs.declared.field.Kind.{Kind}
 use Rattle.segment.specs.declared.field.Kind.TheVariants.{Facet, Other}
 use Rattle.segment.specs.declared.segment.Segment.{Segment}
+use Rattle.segment.specs.Held.{terms_of, rows_of}
 use Rattle.segment.specs.Items.{items}
 use Rattle.segment.specs.Segments.{whole, alive_in}
 
@@ -38,6 +40,12 @@ abbrev pub at_field : {X : Type 0} → X → (Kind → X) → List Field → ℕ
 at_field d f [] i = d
 at_field d f (g ∷ gs) zero = f g.kind
 at_field d f (g ∷ gs) (suc i) = at_field d f gs i
+
+-- the column holds what the field at a place does, which is a facet field
+pub record Facets (s : Segment) (place : ℕ) (c : Column) : Type 0 where
+  pub facet : at_field false is_facet (fields_of s) place ≡ true
+  pub terms : terms_of c ≡ at_field [] kind_terms (fields_of s) place
+  pub rows : rows_of c ≡ at_field [] kind_rows (fields_of s) place
 
 -- the documents of the segment that are alive
 abbrev pub alive : Segment → ℕ → Bool

@@ -1,6 +1,7 @@
 -- A segment: its fields, its document number and its alive set. Assumes nothing.
 use Rattle.std.specs.Prelude.{ℕ, ◌+◌, ◌/◌, ◌%◌, ◌^◌, Bool, true, cond, not, ◌&&◌, List, [], ◌∷◌, length, is_some, Some, None, Option, ◌==◌, nat_le, slice_index}
 use Rattle.std.specs.Borrow.{Bor}
+use Rattle.std.specs.List.{list_all}
 use Rattle.std.specs.Option.{option_or}
 use Rattle.segment.specs.declared.field.Field.{Field}
 use Rattle.segment.specs.declared.field.Kind.{Kind}
@@ -15,8 +16,7 @@ rows_ok docs (Facet t) = length t.row_ends.now == docs
 rows_ok docs Other = true
 
 abbrev pub rows_are : ℕ → List Field → Bool
-rows_are docs [] = true
-rows_are docs (f ∷ fs) = rows_ok docs f.kind && rows_are docs fs
+rows_are docs fs = list_all (λ (f : Field). rows_ok docs f.kind) fs
 
 -- an alive set has a bit for each document
 abbrev pub alive_fits : ℕ → Option (Bor (List ℕ)) → Bool

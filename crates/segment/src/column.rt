@@ -2,15 +2,15 @@
 ghost use Rattle.std.specs.Prelude.{◌≡◌, true};
 ghost use Rattle.segment.specs.Columns.{sound as is_sound};
 
+use crate::items::Items;
+
 pub mod check;
 pub mod make;
 
-// It borrows its four tables. Item i runs from the end before it, 0 for the first, up to its own end.
+// It borrows its tables. A ghost field, since what is `Copy` and has a lifetime can have no model.
 #[derive(Clone, Copy)]
 pub struct Column<'a> {
-    term_bytes: &'a [u8],
-    term_ends: &'a [u32],
-    row_ends: &'a [u32],
-    ordinals: &'a [u32],
-    ghost sound: { is_sound term_bytes.now term_ends.now row_ends.now ordinals.now ≡ true },
+    terms: Items<'a, u8>,
+    rows: Items<'a, u32>,
+    ghost sound: { is_sound terms.all.now terms.ends.now rows.ends.now rows.all.now ≡ true },
 }

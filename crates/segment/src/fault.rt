@@ -3,18 +3,26 @@ ghost use Rattle.std.specs.Prelude.{◌≡◌};
 ghost use Rattle.segment.specs.Faults.{column_number, column_place};
 ghost use Rattle.segment.specs.Laws.{FirstPlace};
 
-use std::fmt;
+use thiserror::Error;
 
 // With the place, from 0, of the first term, row or ordinal that fails.
-#[derive(Clone, Copy, Debug, PartialEq, Eq)]
+#[derive(Clone, Copy, Debug, PartialEq, Eq, Error)]
 pub enum ColumnFault {
+    #[error("there are more than 4096 terms or 65535 rows")]
     TooLarge,
+    #[error("term {0}: its end is wrong, or it has more than 127 bytes")]
     TermEnds(usize),
+    #[error("term {0}: the bytes are not UTF-8")]
     TermNotUtf8(usize),
+    #[error("term {0}: a step is empty")]
     EmptyStep(usize),
+    #[error("term {0}: it is not greater than the term before")]
     TermOrder(usize),
+    #[error("row {0}: its end is wrong")]
     RowEnds(usize),
+    #[error("ordinal {0}: there is no such term")]
     NoTerm(usize),
+    #[error("ordinal {0}: it is less than the one before in its row")]
     OrdinalOrder(usize),
 }
 
@@ -35,43 +43,20 @@ impl ColumnFault {
     }
 
     // The place that the fault tells, of the first term, row or ordinal that fails, or their count.
+    #[tactic(auto, using(crate::proofs::Firsts::first_place))]
     pub fn place(&self) -> Option<usize>
         ensures value { result ≡ column_place self.now }
         ensures first { FirstPlace }
     {
-        match self {
+        match *self {
             ColumnFault::TooLarge => None,
-            ColumnFault::TermEnds(i) => Some(*i),
-            ColumnFault::TermNotUtf8(i) => Some(*i),
-            ColumnFault::EmptyStep(i) => Some(*i),
-            ColumnFault::TermOrder(i) => Some(*i),
-            ColumnFault::RowEnds(i) => Some(*i),
-            ColumnFault::NoTerm(i) => Some(*i),
-            ColumnFault::OrdinalOrder(i) => Some(*i),
-        }
-    }
-}
-
-impl fmt::Display for ColumnFault {
-    fn fmt<W: fmt::Write>(&self, f: &mut fmt::Formatter<W>) -> fmt::Result {
-        match self {
-            ColumnFault::TooLarge => f.write_str("there are more than 4096 terms or 65535 rows"),
-            ColumnFault::TermEnds(i) => write!(
-                f,
-                "term {i}: its end is wrong, or it has more than 127 bytes"
-            ),
-            ColumnFault::TermNotUtf8(i) => write!(f, "term {i}: the bytes are not UTF-8"),
-            ColumnFault::EmptyStep(i) => write!(f, "term {i}: a step is empty"),
-            ColumnFault::TermOrder(i) => write!(
-                f,
-                "term {i}: it is not greater than the term before"
-            ),
-            ColumnFault::RowEnds(i) => write!(f, "row {i}: its end is wrong"),
-            ColumnFault::NoTerm(i) => write!(f, "ordinal {i}: there is no such term"),
-            ColumnFault::OrdinalOrder(i) => write!(
-                f,
-                "ordinal {i}: it is less than the one before in its row"
-            ),
+            ColumnFault::TermEnds(place)
+            | ColumnFault::TermNotUtf8(place)
+            | ColumnFault::EmptyStep(place)
+            | ColumnFault::TermOrder(place)
+            | ColumnFault::RowEnds(place)
+            | ColumnFault::NoTerm(place)
+            | ColumnFault::OrdinalOrder(place) => Some(place),
         }
     }
 }

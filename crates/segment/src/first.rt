@@ -1,27 +1,18 @@
 // The first of many places that fails a test.
 ghost use Rattle.std.specs.Prelude.{◌≡◌, ℕ, ◌<◌, Bool};
+ghost use Rattle.std.specs.Result.{result_err};
 ghost use Rattle.segment.specs.Items.{first_failing};
 
-// A test of places.
-pub trait Test {
-    // the places at which it may be asked
-    ghost can: { Self → ℕ → Type 0 };
-
-    ghost tests: { Self → ℕ → Bool };
-
-    fn passes(&self, place: usize) -> bool
-        requires { can self.now place }
-        ensures { result ≡ tests self.now place };
-}
-
-pub(crate) fn first_failing<T: Test>(test: &T, count: usize) -> Option<usize>
-    requires { (i : ℕ) → i < count → T.can test.now i }
-    ensures { result ≡ first_failing (T.tests test.now) 0 count }
+// Whether each place below the count passes, and else the first that does not.
+pub(crate) fn all_pass<F: Fn(usize) -> bool>(count: usize, passes: F) -> Result<(), usize>
+    requires { (i : ℕ) → i < count → F.pre passes i }
+    ensures { (test : ℕ → Bool) → ((i : ℕ) (b : Bool) → i < count → F.post passes i b → b ≡ test i) → result_err result ≡ first_failing test 0 count }
 {
+    // a loop, since `find` with a closure that calls `passes` leaves what it found open
     for place in 0..count {
-        if !test.passes(place) {
-            return Some(place);
+        if !passes(place) {
+            return Err(place);
         }
     }
-    None
+    Ok(())
 }

@@ -1,52 +1,44 @@
-// What is asked of each ordinal of a column.
-ghost use Rattle.std.specs.Prelude.{◌≡◌, ℕ, ◌<◌, length, nat_le, nat_lt, slice_index};
-ghost use Rattle.segment.specs.Columns.{after, falls_from};
-ghost use Rattle.segment.specs.Items.{items, Within};
+// What is asked of the rows of a column.
+ghost use Rattle.std.specs.Prelude.{◌≡◌, ◌+◌, ◌^◌, ◌<◌, leb, length, IfOk};
+ghost use Rattle.std.specs.Option.{option_map};
+ghost use Rattle.std.specs.Result.{result_err};
+ghost use Rattle.segment.specs.Columns.{after, falls_from, rows_fault};
+ghost use Rattle.segment.specs.Items.{items, first_failing};
 
-use crate::first::{Test, first_failing};
-use crate::items::{item, start_of};
+use crate::fault::ColumnFault;
+use crate::first::all_pass;
+use crate::items::{Items, start_of};
 
-// Ordinals that are to be below a number of terms.
-#[derive(Clone, Copy)]
-pub struct EachBelow<'a> {
-    pub ordinals: &'a [u32],
-    pub terms: usize,
-}
-
-impl<'a> Test for EachBelow<'a> {
-    ghost can = { λ t i. i < length t.ordinals.now };
-
-    ghost tests = { λ t i. nat_lt (slice_index t.ordinals.now i) t.terms };
-
-    fn passes(&self, place: usize) -> bool {
-        (self.ordinals[place] as usize) < self.terms
-    }
-}
-
-// The ordinals of a row, of which none is to fall.
-#[derive(Clone, Copy)]
-struct Row<'a>(&'a [u32]);
-
-impl<'a> Test for Row<'a> {
-    ghost can = { λ t i. i < length t.0.now };
-
-    ghost tests = { λ t i. after 0 nat_le t.0.now i };
-
-    fn passes(&self, place: usize) -> bool {
-        place == 0 || self.0[place - 1] <= self.0[place]
-    }
-}
-
-// The place of the first ordinal that falls within its row.
-pub(crate) fn fall(row_ends: &[u32], ordinals: &[u32]) -> Option<usize>
-    requires { (i : ℕ) → i < length row_ends.now → Within row_ends.now (length ordinals.now) i }
-    ensures { result ≡ falls_from 0 (items row_ends.now ordinals.now) }
+// Whether no ordinal of a row falls, and else the place of the first that does, where the row begins at `start`.
+fn check_row(row: &[u32], start: usize) -> Result<(), usize>
+    requires { start + length row.now < 2 ^ 64 }
+    ensures { result_err result ≡ option_map (λ k. start + k) (first_failing (after 0 leb row.now) 0 (length row.now)) }
 {
-    for i in 0..row_ends.len() {
-        let row = item(ordinals, row_ends, i);
-        if let Some(k) = first_failing(&Row(row), row.len()) {
-            return Some(start_of(row_ends, i) as usize + k);
-        }
+    all_pass(row.len(), |k| k == 0 || row[k - 1] <= row[k]).map_err(|k| start + k)
+}
+
+// The same of each row.
+fn check_rises(rows: Items<u32>) -> Result<(), usize>
+    ensures { result_err result ≡ falls_from 0 (items rows.entry.ends.now rows.entry.all.now) }
+{
+    for i in 0..rows.len() {
+        check_row(rows.at(i), start_of(rows.ends, i) as usize)?;
     }
-    None
+    Ok(())
+}
+
+// The rows of a column of so many terms, or the first question that they fail.
+pub(crate) fn rows<'a>(
+    ordinals: &'a [u32],
+    ends: &'a [u32],
+    terms: usize,
+) -> Result<Items<'a, u32>, ColumnFault>
+    ensures fault { result_err result ≡ rows_fault ends.now ordinals.now terms }
+    ensures all { IfOk result (λ r. r.all ≡ ordinals.entry) }
+    ensures ends { IfOk result (λ r. r.ends ≡ ends.entry) }
+{
+    let rows = Items::new(None, ordinals, ends).map_err(ColumnFault::RowEnds)?;
+    all_pass(ordinals.len(), |i| (ordinals[i] as usize) < terms).map_err(ColumnFault::NoTerm)?;
+    check_rises(rows).map_err(ColumnFault::OrdinalOrder)?;
+    Ok(rows)
 }

@@ -1,88 +1,49 @@
 // What is asked of each term of a column.
-ghost use Rattle.std.specs.Prelude.{◌≡◌, ℕ, ◌≤◌, [], length, slice_index_or};
+ghost use Rattle.std.specs.Prelude.{◌≡◌, ◌<◌, [], length, IfOk};
+ghost use Rattle.std.specs.Result.{result_err};
 ghost use Rattle.facet.specs.Paths.{steps};
-ghost use Rattle.segment.specs.Columns.{full, after, rises as rises_to};
-ghost use Rattle.segment.specs.Items.{items, Within};
-ghost use Rattle.utf8.specs.Octets.{utf8};
+ghost use Rattle.segment.specs.Columns.{after, full, rises as rises_to, each_fault, terms_fault};
+ghost use Rattle.segment.specs.Items.{items};
 
-use crate::first::Test;
-use crate::items::item;
+use crate::fault::ColumnFault;
+use crate::first::all_pass;
+use crate::items::Items;
 use utf8::is_utf8;
 
-// Terms by their bytes and ends.
-#[derive(Clone, Copy)]
-pub struct Terms<'a> {
-    pub bytes: &'a [u8],
-    pub ends: &'a [u32],
-}
-
-#[derive(Clone, Copy)]
-pub struct EachUtf8<'a>(pub Terms<'a>);
-
-impl<'a> Test for EachUtf8<'a> {
-    ghost can = { λ t i. Within t.0.ends.now (length t.0.bytes.now) i };
-
-    ghost tests = { λ t i. utf8 (slice_index_or (items t.0.ends.now t.0.bytes.now) i []) };
-
-    fn passes(&self, place: usize) -> bool {
-        is_utf8(item(self.0.bytes, self.0.ends, place))
-    }
-}
+const LONGEST_TERM: u32 = 127;
 
 // Whether each step of a term has a byte.
 fn is_full(term: &[u8]) -> bool
     ensures { result ≡ full (steps term.now) }
 {
-    if term.is_empty() {
-        return true;
-    }
-    // whether the step has a byte yet
-    let mut begun = false;
-    for b in term {
-        if *b != 0 {
-            begun = true;
-        } else if begun {
-            begun = false;
-        } else {
-            return false;
-        }
-    }
-    begun
+    term.is_empty() || term.split(|b| *b == 0).all(|step| !step.is_empty())
 }
 
-#[derive(Clone, Copy)]
-pub struct EachFull<'a>(pub Terms<'a>);
-
-impl<'a> Test for EachFull<'a> {
-    ghost can = { λ t i. Within t.0.ends.now (length t.0.bytes.now) i };
-
-    ghost tests = { λ t i. full (steps (slice_index_or (items t.0.ends.now t.0.bytes.now) i [])) };
-
-    fn passes(&self, place: usize) -> bool {
-        is_full(item(self.0.bytes, self.0.ends, place))
-    }
-}
-
-// Whether the second term is greater than the first.
-fn rises(first: &[u8], second: &[u8]) -> bool
-    ensures { result ≡ rises_to first.now second.now }
+// Whether a term is greater than the one before, if there is one.
+fn rises(terms: Items<u8>, i: usize) -> bool
+    requires { i < length terms.ends.now }
+    ensures { result ≡ after [] rises_to (items terms.entry.ends.now terms.entry.all.now) i }
 {
-    first.cmp(second).is_lt()
+    i == 0 || terms.at(i - 1) < terms.at(i)
 }
 
-#[derive(Clone, Copy)]
-pub struct EachRises<'a>(pub Terms<'a>);
+// Whether each term is UTF-8, has no empty step, and is greater than the one before.
+fn check_each(terms: Items<u8>) -> Result<(), ColumnFault>
+    ensures { result_err result ≡ each_fault terms.entry.all.now terms.entry.ends.now }
+{
+    let count = terms.len();
+    all_pass(count, |i| is_utf8(terms.at(i))).map_err(ColumnFault::TermNotUtf8)?;
+    all_pass(count, |i| is_full(terms.at(i))).map_err(ColumnFault::EmptyStep)?;
+    all_pass(count, |i| rises(terms, i)).map_err(ColumnFault::TermOrder)
+}
 
-impl<'a> Test for EachRises<'a> {
-    ghost can = { λ t i. (k : ℕ) → k ≤ i → Within t.0.ends.now (length t.0.bytes.now) k };
-
-    ghost tests = { λ t i. after [] rises_to (items t.0.ends.now t.0.bytes.now) i };
-
-    fn passes(&self, place: usize) -> bool {
-        place == 0
-            || rises(
-                item(self.0.bytes, self.0.ends, place - 1),
-                item(self.0.bytes, self.0.ends, place),
-            )
-    }
+// The terms of a column, or the first question that they fail.
+pub(crate) fn terms<'a>(bytes: &'a [u8], ends: &'a [u32]) -> Result<Items<'a, u8>, ColumnFault>
+    ensures fault { result_err result ≡ terms_fault bytes.now ends.now }
+    ensures all { IfOk result (λ t. t.all ≡ bytes.entry) }
+    ensures ends { IfOk result (λ t. t.ends ≡ ends.entry) }
+{
+    let terms = Items::new(Some(LONGEST_TERM), bytes, ends).map_err(ColumnFault::TermEnds)?;
+    check_each(terms)?;
+    Ok(terms)
 }

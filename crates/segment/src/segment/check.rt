@@ -1,7 +1,9 @@
 // The questions that are asked of a segment: of its fields one by one, and then of its document number.
-ghost use Rattle.std.specs.Prelude.{◌≡◌, ◌≤◌, []};
+ghost use Rattle.std.specs.Prelude.{◌≡◌, ◌≤◌, [], IfOk};
+ghost use Rattle.std.specs.Result.{result_err};
 ghost use Rattle.segment.specs.Columns.{asked};
 ghost use Rattle.segment.specs.Fields.{admits as is_admitted, kind_fault, field_fault, fields_from};
+ghost use Rattle.segment.specs.Made.{docs_of, fields_of};
 ghost use Rattle.segment.specs.Segments.{rows_ok, rows_are, alive_fits, segment_fault};
 
 use super::Segment;
@@ -9,7 +11,7 @@ use crate::column::Column;
 use crate::fault::ColumnFault;
 use crate::field::{Field, Kind};
 use crate::place::place_of;
-use crate::segment_fault::{SegmentFault, with_place};
+use crate::segment_fault::{AtPlace, SegmentFault};
 
 const LONGEST_NAME: usize = 64;
 
@@ -21,7 +23,7 @@ fn check_kind(kind: Kind) -> Result<(), ColumnFault>
     ensures { result ≡ asked (kind_fault kind.entry) }
 {
     match kind {
-        Kind::Facet(t) => Column::check(t.term_bytes, t.term_ends, t.row_ends, t.ordinals),
+        Kind::Facet(tables) => Column::check(tables),
         Kind::Other => Ok(()),
     }
 }
@@ -42,7 +44,7 @@ pub fn check_field<'a>(fields: &[Field<'a>], field: &Field<'a>) -> Result<(), Se
     ensures { result ≡ asked (field_fault fields.now field.now) }
 {
     let place = fields.len();
-    with_place(place, check_kind(field.kind))?;
+    check_kind(field.kind).map_err(|fault| AtPlace { place, fault })?;
     if admits(fields, field.name) {
         Ok(())
     } else {
@@ -54,8 +56,8 @@ pub fn check_field<'a>(fields: &[Field<'a>], field: &Field<'a>) -> Result<(), Se
 fn check_fields<'a>(fields: &[Field<'a>]) -> Result<(), SegmentFault>
     ensures { result ≡ asked (fields_from [] fields.now) }
 {
-    for i in 0..fields.len() {
-        check_field(&fields[0..i], &fields[i])?;
+    for (i, field) in fields.iter().enumerate() {
+        check_field(&fields[0..i], field)?;
     }
     Ok(())
 }
@@ -65,7 +67,7 @@ fn has_rows(docs: u32, kind: Kind) -> bool
     ensures { result ≡ rows_ok docs kind.entry }
 {
     match kind {
-        Kind::Facet(t) => t.row_ends.len() == docs as usize,
+        Kind::Facet(tables) => tables.row_ends.len() == docs as usize,
         Kind::Other => true,
     }
 }
@@ -73,12 +75,7 @@ fn has_rows(docs: u32, kind: Kind) -> bool
 fn all_have_rows(docs: u32, fields: &[Field]) -> bool
     ensures { result ≡ rows_are docs fields.now }
 {
-    for field in fields {
-        if !has_rows(docs, field.kind) {
-            return false;
-        }
-    }
-    true
+    fields.iter().all(|field| has_rows(docs, field.kind))
 }
 
 // Whether an alive set, if there is one, has a bit for each document.
@@ -86,13 +83,33 @@ fn has_bits(docs: u32, alive: Option<&[u8]>) -> bool
     requires { docs ≤ 65535 }
     ensures { result ≡ alive_fits docs alive.entry }
 {
-    match alive {
-        Some(set) => set.len() == (docs as usize + 7) / 8,
-        None => true,
-    }
+    alive.is_none_or(|set| set.len() == (docs as usize + 7) / 8)
 }
 
 impl<'a> Segment<'a> {
+    // The segment of the parts, or the first question that they fail.
+    pub fn try_new(
+        fields: &'a [Field<'a>],
+        docs: u32,
+        alive: Option<&'a [u8]>,
+    ) -> Result<Segment<'a>, SegmentFault>
+        ensures fault { result_err result ≡ segment_fault fields.now docs alive.entry }
+        ensures fields { IfOk result (λ s. fields_of s ≡ fields.now) }
+        ensures docs { IfOk result (λ s. docs_of s ≡ docs) }
+        ensures alive { IfOk result (λ s. s.alive ≡ alive.entry) }
+    {
+        check_fields(fields)?;
+        if docs <= MOST_DOCS && all_have_rows(docs, fields) && has_bits(docs, alive) {
+            Ok(Segment {
+                fields,
+                docs,
+                alive,
+            })
+        } else {
+            Err(SegmentFault::Documents)
+        }
+    }
+
     // Whether the parts make a segment, and else the first question that they fail.
     pub fn check(
         fields: &'a [Field<'a>],
@@ -101,11 +118,6 @@ impl<'a> Segment<'a> {
     ) -> Result<(), SegmentFault>
         ensures { result ≡ asked (segment_fault fields.now docs alive.entry) }
     {
-        check_fields(fields)?;
-        if docs <= MOST_DOCS && all_have_rows(docs, fields) && has_bits(docs, alive) {
-            Ok(())
-        } else {
-            Err(SegmentFault::Documents)
-        }
+        Segment::try_new(fields, docs, alive).map(|_| ())
     }
 }

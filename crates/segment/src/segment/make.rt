@@ -1,9 +1,9 @@
 // A segment from parts that were checked, and what it holds.
-ghost use Rattle.std.specs.Prelude.{◌≡◌, ◌/◌, ◌<◌, false, [], length, None};
+ghost use Rattle.std.specs.Prelude.{◌≡◌, ◌/◌, ◌<◌, false, [], length, None, MatchOption};
 ghost use Rattle.segment.specs.Held.{terms_of, rows_of};
 ghost use Rattle.segment.specs.Segments.{bit_of};
-ghost use Rattle.segment.specs.Fields.{place_of, kind_fault};
-ghost use Rattle.segment.specs.Made.{PartsOf, docs_of, fields_of, kind_terms, kind_rows, is_facet, at_field, alive as is_alive};
+ghost use Rattle.segment.specs.Fields.{place_of};
+ghost use Rattle.segment.specs.Made.{PartsOf, Facets, docs_of, fields_of, kind_terms, kind_rows, is_facet, at_field, alive as is_alive};
 
 use super::Segment;
 use crate::column::Column;
@@ -18,30 +18,12 @@ fn is_set(set: &[u8], d: u32) -> bool
     (set[(d / 8) as usize] >> (d % 8)) % 2 == 1
 }
 
-fn is_facet(kind: Kind) -> bool
-    ensures { result ≡ is_facet kind.entry }
-{
-    match kind {
-        Kind::Facet(_) => true,
-        Kind::Other => false,
-    }
-}
-
-// The column of a field that was checked.
-fn column_of<'a>(kind: Kind<'a>) -> Column<'a>
-    requires { kind_fault kind ≡ None }
-    ensures { (terms_of result ≡ kind_terms kind.entry) × (rows_of result ≡ kind_rows kind.entry) }
-{
-    match kind {
-        Kind::Facet(tables) => Column::checked(tables),
-        Kind::Other => Column::empty(),
-    }
-}
-
 impl<'a> Segment<'a> {
     // The segment without documents and fields.
     pub fn empty() -> Segment<'a>
-        ensures { (fields_of result ≡ []) × (docs_of result ≡ 0) × (result.alive ≡ None) }
+        ensures fields { fields_of result ≡ [] }
+        ensures docs { docs_of result ≡ 0 }
+        ensures alive { result.alive ≡ None }
     {
         Segment {
             fields: &[],
@@ -54,14 +36,7 @@ impl<'a> Segment<'a> {
     pub fn new(fields: &'a [Field<'a>], docs: u32, alive: Option<&'a [u8]>) -> Segment<'a>
         ensures { PartsOf result fields.now docs alive.entry }
     {
-        if let Err(_) = Segment::check(fields, docs, alive) {
-            return Segment::empty();
-        }
-        Segment {
-            fields,
-            docs,
-            alive,
-        }
+        Segment::try_new(fields, docs, alive).unwrap_or(Segment::empty())
     }
 
     pub fn num_docs(&self) -> u32
@@ -77,36 +52,35 @@ impl<'a> Segment<'a> {
         place_of(self.fields, name)
     }
 
+    // The column of the field at a place, none where there is no facet field.
+    pub fn facets(&self, place: usize) -> Option<Column<'a>>
+        ensures { MatchOption result (at_field false is_facet (fields_of self.now) place ≡ false) (Facets self.now place) }
+    {
+        match self.fields.get(place)?.kind {
+            Kind::Facet(tables) => Some(Column::checked(tables)),
+            Kind::Other => None,
+        }
+    }
+
     // Whether the field at a place is a facet field.
     pub fn is_facet(&self, place: usize) -> bool
         ensures { result ≡ at_field false is_facet (fields_of self.now) place }
     {
-        if place >= self.fields.len() {
-            return false;
-        }
-        is_facet(self.fields[place].kind)
+        self.facets(place).is_some()
     }
 
     // The column of the field at a place, the empty one where there is none.
     pub fn column(&self, place: usize) -> Column<'a>
-        ensures { (terms_of result ≡ at_field [] kind_terms (fields_of self.now) place) × (rows_of result ≡ at_field [] kind_rows (fields_of self.now) place) }
+        ensures terms { terms_of result ≡ at_field [] kind_terms (fields_of self.now) place }
+        ensures rows { rows_of result ≡ at_field [] kind_rows (fields_of self.now) place }
     {
-        if place >= self.fields.len() {
-            return Column::empty();
-        }
-        column_of(self.fields[place].kind)
+        self.facets(place).unwrap_or(Column::empty())
     }
 
     // Whether a document is in the segment and alive.
     pub fn is_alive(&self, doc: u32) -> bool
         ensures { result ≡ is_alive self.now doc }
     {
-        if doc >= self.docs {
-            return false;
-        }
-        match self.alive {
-            Some(set) => is_set(set, doc),
-            None => true,
-        }
+        doc < self.docs && self.alive.is_none_or(|set| is_set(set, doc))
     }
 }

@@ -1,21 +1,18 @@
-use Rattle.std.proofs.Common.{◌≡◌, ℕ, List, Ok, Err, Result, ap, ◌∙◌, arith}
-use Rattle.facet.specs.Reading.{decoded}
+use Rattle.std.proofs.Common.{◌≡◌, ℕ, List, Ok, Err, Result, MatchOption, subst, sym, ap, ◌∙◌, arith}
+use Rattle.std.specs.Result.{result_ok}
+use Rattle.facet.specs.declared.encoded.Facet.{Facet}
 use Rattle.facet.specs.declared.fault.FacetFault.{FacetFault}
+use Rattle.facet.specs.Facets.{answer_of, encoded_of}
+use Rattle.facet.specs.Reading.{decoded}
 use Rattle.segment.proofs.Sounds.{term_decodes}
 use Rattle.segment.proofs.column.Column.facet.Goals as goal
 
-same : (f g : List ℕ) → ◌≡◌ {A = Result (List ℕ) FacetFault} (Ok f) (Ok g) → f ≡ g
-same f g e = cc
+-- what was read of an encoding
+held : (r : Result Facet FacetFault) (t : List ℕ) (Past Within : Type 0) → answer_of r ≡ Ok t → Within → MatchOption (result_ok r) Past (λ f. Within × (encoded_of f ≡ t))
+held (Ok f) t Past Within e w = (w, let s : encoded_of f ≡ t = cc in s)
+held (Err x) t Past Within e w = absurd (let z : ◌≡◌ {A = ℕ} 0 1 = cc in omega arith)
 
-never : (e : FacetFault) (g : List ℕ) → ◌≡◌ {A = Result (List ℕ) FacetFault} (Err e) (Ok g) → ⊥
-never e g q = let z : ◌≡◌ {A = ℕ} 0 1 = cc in omega arith
-
-pub returns-in-Ok : goal.returns-in-Ok
-returns-in-Ok c =
-    let t = c.in-Some.ensures in
-    (t.0, same _ _ (c.in-Ok.ensures ∙ ap decoded t.1 ∙ term_decodes c.args.self.now c.args.ordinal t.0))
-
-pub returns-in-Err : goal.returns-in-Err
-returns-in-Err c =
-    let t = c.in-Some.ensures in
-    absurd (never _ _ (c.in-Err.ensures ∙ ap decoded t.1 ∙ term_decodes c.args.self.now c.args.ordinal t.0))
+pub returns : goal.returns
+returns c =
+    let (within, is) = c.in_ok-term.ensures in
+    rw c.ok.ensures.value (held _ _ _ _ (c.from_encoded.ensures ∙ ap decoded is ∙ term_decodes c.args.self.now c.args.ordinal within) within)
