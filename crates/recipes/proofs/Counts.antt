@@ -1,33 +1,42 @@
 -- The children of a branch and their counts. Assumes nothing.
-use Rattle.std.proofs.Common.{◌≡◌, ℕ, ◌+◌, ◌<◌, ◌≤◌, Bool, true, false, cond, ◌||◌, ltb, ◌⊎◌, List, [], ◌∷◌, ◌++◌, map, length, get_or, take, drop, Ordering, Less, Equal, Greater, sym, refl, ap, ◌∙◌, subst, inl, inr, ⊎_elim, arith}
+use Rattle.std.proofs.Common.{◌≡◌, ℕ, ◌+◌, ◌<◌, ◌≤◌, Bool, true, false, cond, ◌||◌, ltb, ◌⊎◌, List, [], ◌∷◌, ◌++◌, map, Ordering, Less, Equal, Greater, sym, refl, ap, ◌∙◌, subst, inl, inr, ⊎_elim, arith}
 use Rattle.facet.specs.Laws.{OnTheWay, NoWay}
 use Rattle.facet.specs.Paths.{at_or_below, child, order}
 use Rattle.std.proofs.ByRecursion.{All-weaker, All-map}
 use Rattle.std.proofs.lemmas.Map.Lookups.{exact_bytes}
 use Rattle.std.proofs.lemmas.Slice.Eq.{bytes_eq-Decides}
-use Rattle.std.proofs.lemmas.List.{append_assoc, take-append-drop, take_more, drop_more, at_drop_more, at_drop_all}
+use Rattle.std.proofs.lemmas.List.Folds.{list_any-append}
+use Rattle.std.proofs.lemmas.List.Sums.{sum_by-cons}
 use Rattle.std.proofs.lemmas.Bool.{or_cases, or_left, or_right, both_ways, cases_lt, lt-ltb, ltb-true}
 use Rattle.std.proofs.lemmas.Bool.Decides.{nat_tests}
-use Rattle.std.specs.List.{flat_map, AllByRecursion}
+use Rattle.std.specs.List.{flat_map, list_any, count_by, AllByRecursion}
 use Rattle.std.specs.Cmp.{nat_cmp_total}
 use Rattle.std.specs.Cmp.Lexicographic.{lists_total}
-use Rattle.std.specs.Ordering.{is_lt, is_eq, ordering_reverse}
+use Rattle.std.specs.BTreeSet.{insert_key}
+use Rattle.std.specs.Ordering.{match_ordering, ordering_reverse}
 use Rattle.std.specs.Str.{bytes_eq}
-use Rattle.recipes.specs.Counting.{holds, recipes_at, count_of, Ascending, Counted, member, put, Children}
+use Rattle.recipes.specs.Counting.{holds, recipes_at, count_of, Ascending, Counted, member, Children}
 
 -- ---- what recipes hold
 
-or_assoc : (a b c : Bool) → ((a || b) || c) ≡ (a || (b || c))
-or_assoc a b c = grind arith
-
 pub holds_append : (fs gs : List (List ℕ)) (c : List ℕ) → holds (fs ++ gs) c ≡ (holds fs c || holds gs c)
-holds_append [] gs c = refl
-holds_append (f ∷ fs) gs c = ap (λ (t : Bool). at_or_below f c || t) (holds_append fs gs c) ∙ sym (or_assoc (at_or_below f c) (holds fs c) (holds gs c))
+holds_append fs gs c = list_any-append (λ f. at_or_below f c) fs gs
+
+pub list_any-map : {X Y : Type 0} (p : Y → Bool) (f : X → Y) (xs : List X) → list_any p (map f xs) ≡ list_any (λ x. p (f x)) xs
+list_any-map p f [] = refl
+list_any-map p f (x ∷ xs) = ap (λ (t : Bool). p (f x) || t) (list_any-map p f xs)
+
+pub count_by-map : {X Y : Type 0} (p : Y → Bool) (f : X → Y) (xs : List X) → count_by p (map f xs) ≡ count_by (λ x. p (f x)) xs
+count_by-map p f [] = refl
+count_by-map p f (x ∷ xs) =
+    sum_by-cons (λ y. cond (p y) 1 0) (f x) (map f xs) ∙ ap (λ (n : ℕ). cond (p (f x)) 1 0 + n) (count_by-map p f xs) ∙ sym (sum_by-cons (λ y. cond (p (f y)) 1 0) x xs)
 
 -- some recipe holds what all of them together hold
 pub some_hold : {X : Type 0} (f : X → List (List ℕ)) (xs : List X) (c : List ℕ) → holds (flat_map f xs) c ≡ ltb 0 (recipes_at (map f xs) c)
 some_hold f [] c = refl
-some_hold f (x ∷ xs) c = holds_append (f x) (flat_map f xs) c ∙ ap (λ (t : Bool). holds (f x) c || t) (some_hold f xs c) ∙ cut (holds (f x) c) (recipes_at (map f xs) c)
+some_hold f (x ∷ xs) c =
+    holds_append (f x) (flat_map f xs) c ∙ ap (λ (t : Bool). holds (f x) c || t) (some_hold f xs c) ∙ cut (holds (f x) c) (recipes_at (map f xs) c)
+    ∙ ap (ltb 0) (sym (sum_by-cons (λ r. cond (holds r c) 1 0) (f x) (map f xs)))
   where
     cut : (t : Bool) (n : ℕ) → (t || ltb 0 n) ≡ ltb 0 (cond t 1 0 + n)
     cut true n = sym (grind (arith, nat_tests))
@@ -41,9 +50,13 @@ order_same f g e = exact_bytes f g e
 order_flip : (f g : List ℕ) → order f g ≡ Greater → order g f ≡ Less
 order_flip f g e = (lists_total nat_cmp_total).antisymm g f ∙ ap ordering_reverse e
 
+-- f at its place among the others, once
+abbrev pub put : List ℕ → List (List ℕ) → List (List ℕ)
+put f gs = insert_key order gs f
+
 pub member_put : (f : List ℕ) (gs : List (List ℕ)) (c : List ℕ) → member (put f gs) c ≡ (bytes_eq f c || member gs c)
 member_put f [] c = refl
-member_put f (g ∷ gs) c = cut (order g f) refl (member_put f gs c)
+member_put f (g ∷ gs) c = cut (order f g) refl (member_put f gs c)
   where
     swap : (a b m : Bool) → (b || (a || m)) ≡ (a || (b || m))
     swap a b m = grind arith
@@ -51,29 +64,29 @@ member_put f (g ∷ gs) c = cut (order g f) refl (member_put f gs c)
     twice : (a m : Bool) → (a || m) ≡ (a || (a || m))
     twice a m = grind arith
 
-    cut : (o : Ordering) → order g f ≡ o → member (put f gs) c ≡ (bytes_eq f c || member gs c) → member (cond (is_lt o) (g ∷ put f gs) (cond (is_eq o) (g ∷ gs) (f ∷ g ∷ gs))) c ≡ (bytes_eq f c || (bytes_eq g c || member gs c))
-    cut Less e h = ap (λ (t : Bool). bytes_eq g c || t) h ∙ swap (bytes_eq f c) (bytes_eq g c) (member gs c)
-    cut Equal e h = twice (bytes_eq g c) (member gs c) ∙ ap (λ (x : List ℕ). bytes_eq x c || (bytes_eq g c || member gs c)) (order_same g f e)
-    cut Greater e h = refl
+    cut : (o : Ordering) → order f g ≡ o → member (put f gs) c ≡ (bytes_eq f c || member gs c) → member (match_ordering o (f ∷ g ∷ gs) (g ∷ gs) (g ∷ put f gs)) c ≡ (bytes_eq f c || (bytes_eq g c || member gs c))
+    cut Less e h = refl
+    cut Equal e h = twice (bytes_eq g c) (member gs c) ∙ ap (λ (x : List ℕ). bytes_eq x c || (bytes_eq g c || member gs c)) (sym (order_same f g e))
+    cut Greater e h = ap (λ (t : Bool). bytes_eq g c || t) h ∙ swap (bytes_eq f c) (bytes_eq g c) (member gs c)
 
 all_put : (P : List ℕ → Type 0) (f : List ℕ) (gs : List (List ℕ)) → P f → AllByRecursion P gs → AllByRecursion P (put f gs)
 all_put P f [] p a = (p, tt)
-all_put P f (g ∷ gs) p a = cut (order g f) (all_put P f gs p a.1)
+all_put P f (g ∷ gs) p a = cut (order f g) (all_put P f gs p a.1)
   where
-    cut : (o : Ordering) → AllByRecursion P (put f gs) → AllByRecursion P (cond (is_lt o) (g ∷ put f gs) (cond (is_eq o) (g ∷ gs) (f ∷ g ∷ gs)))
-    cut Less h = (a.0, h)
+    cut : (o : Ordering) → AllByRecursion P (put f gs) → AllByRecursion P (match_ordering o (f ∷ g ∷ gs) (g ∷ gs) (g ∷ put f gs))
+    cut Less h = (p, a)
     cut Equal h = a
-    cut Greater h = (p, a)
+    cut Greater h = (a.0, h)
 
 -- what stands before both f and a list stands before the list with f
 before_put : (e f : List ℕ) (gs : List (List ℕ)) → order e f ≡ Less → Ascending (e ∷ gs) → Ascending (put f gs) → Ascending (e ∷ put f gs)
 before_put e f [] l a h = (l, tt)
-before_put e f (g ∷ gs) l a h = cut (order g f) h
+before_put e f (g ∷ gs) l a h = cut (order f g) h
   where
-    cut : (o : Ordering) → Ascending (cond (is_lt o) (g ∷ put f gs) (cond (is_eq o) (g ∷ gs) (f ∷ g ∷ gs))) → Ascending (e ∷ cond (is_lt o) (g ∷ put f gs) (cond (is_eq o) (g ∷ gs) (f ∷ g ∷ gs)))
-    cut Less h = (a.0, h)
+    cut : (o : Ordering) → Ascending (match_ordering o (f ∷ g ∷ gs) (g ∷ gs) (g ∷ put f gs)) → Ascending (e ∷ match_ordering o (f ∷ g ∷ gs) (g ∷ gs) (g ∷ put f gs))
+    cut Less h = (l, h)
     cut Equal h = (a.0, h)
-    cut Greater h = (l, h)
+    cut Greater h = (a.0, h)
 
 behind : (g : List ℕ) (gs : List (List ℕ)) → Ascending (g ∷ gs) → Ascending gs
 behind g [] a = tt
@@ -81,12 +94,12 @@ behind g (h ∷ gs) a = a.1
 
 ascending_put : (f : List ℕ) (gs : List (List ℕ)) → Ascending gs → Ascending (put f gs)
 ascending_put f [] a = tt
-ascending_put f (g ∷ gs) a = cut (order g f) refl (ascending_put f gs (behind g gs a))
+ascending_put f (g ∷ gs) a = cut (order f g) refl (ascending_put f gs (behind g gs a))
   where
-    cut : (o : Ordering) → order g f ≡ o → Ascending (put f gs) → Ascending (cond (is_lt o) (g ∷ put f gs) (cond (is_eq o) (g ∷ gs) (f ∷ g ∷ gs)))
-    cut Less e h = before_put g f gs e a h
+    cut : (o : Ordering) → order f g ≡ o → Ascending (put f gs) → Ascending (match_ordering o (f ∷ g ∷ gs) (g ∷ gs) (g ∷ put f gs))
+    cut Less e h = (e, a)
     cut Equal e h = a
-    cut Greater e h = (order_flip g f e, a)
+    cut Greater e h = before_put g f gs (order_flip f g e) a h
 
 -- ---- one facet more
 
@@ -131,6 +144,11 @@ module _ (g : List ℕ → ℕ) where
       cut true e h = ap g ((bytes_eq-Decides c d).0 e)
       cut false e h = h
 
+  -- those of things that are seen as children
+  pub entries_of : {X : Type 0} (f : X → List ℕ) (xs : List X) → map (λ x. (f x, g (f x))) xs ≡ entries (map f xs)
+  entries_of f [] = refl
+  entries_of f (x ∷ xs) = ap (λ (l : List (List ℕ × ℕ)). (f x, g (f x)) ∷ l) (entries_of f xs)
+
   firsts : (cs : List (List ℕ)) → map (λ (e : List ℕ × ℕ). e.0) (entries cs) ≡ cs
   firsts [] = refl
   firsts (c ∷ cs) = ap (λ (l : List (List ℕ)). c ∷ l) (firsts cs)
@@ -146,30 +164,3 @@ counted f xs p cs h = record {
     cut : (c : List ℕ) (t : Bool) (n : ℕ) → member cs c ≡ t → (0 < n → member cs c ≡ true) → cond t n 0 ≡ n
     cut c true n e q = refl
     cut c false n e q = ⊎_elim (λ (z : 0 < n). absurd (both_ways (member cs c) e (q z))) (λ (z : n ≤ 0). omega arith) (cases_lt 0 n)
-
--- ---- loops over what is left
-
--- the element at i, as a loop reads it
-pub at_item : {X Y : Type 0} (F : List X → Y) (xs : List X) (i : ℕ) (x : X) → i < length xs → x ≡ get_or xs i x → F (drop i xs) ≡ F (x ∷ drop (i + 1) xs)
-at_item F xs i x h e = at_drop_more F xs i x h ∙ ap (λ y. F (y ∷ drop (i + 1) xs)) (sym e)
-
--- where f goes among the facets from i on, by what stands at i
-module _ (f : List ℕ) (gs : List (List ℕ)) (i : ℕ) (h : i < length gs) where
-  at_place : (o : Ordering) → order (get_or gs i []) f ≡ o → put f (drop i gs) ≡ cond (is_lt o) (get_or gs i [] ∷ put f (drop (i + 1) gs)) (cond (is_eq o) (drop i gs) (f ∷ drop i gs))
-  at_place o e =
-      at_drop_more (put f) gs i [] h
-      ∙ (λ j. cond (is_lt (e j)) (get_or gs i [] ∷ put f (drop (i + 1) gs)) (cond (is_eq (e j)) (sym (drop_more gs i [] h) j) (f ∷ sym (drop_more gs i [] h) j)))
-
-  pub put_behind : order (get_or gs i []) f ≡ Less → put f gs ≡ take i gs ++ put f (drop i gs) → put f gs ≡ take (i + 1) gs ++ put f (drop (i + 1) gs)
-  put_behind e q =
-      q ∙ ap (λ (l : List (List ℕ)). take i gs ++ l) (at_place Less e)
-      ∙ sym (append_assoc (take i gs) (get_or gs i [] ∷ []) (put f (drop (i + 1) gs))) ∙ ap (λ (l : List (List ℕ)). l ++ put f (drop (i + 1) gs)) (sym (take_more gs i [] h))
-
-  pub put_same : order (get_or gs i []) f ≡ Equal → put f gs ≡ take i gs ++ put f (drop i gs) → put f gs ≡ gs
-  put_same e q = q ∙ ap (λ (l : List (List ℕ)). take i gs ++ l) (at_place Equal e) ∙ take-append-drop i gs
-
-  pub put_here : order (get_or gs i []) f ≡ Greater → put f gs ≡ take i gs ++ put f (drop i gs) → put f gs ≡ take i gs ++ f ∷ drop i gs
-  put_here e q = q ∙ ap (λ (l : List (List ℕ)). take i gs ++ l) (at_place Greater e)
-
-pub put_last : (f : List ℕ) (gs : List (List ℕ)) (i : ℕ) → length gs ≤ i → put f gs ≡ take i gs ++ put f (drop i gs) → put f gs ≡ take i gs ++ f ∷ drop i gs
-put_last f gs i h q = q ∙ ap (λ (l : List (List ℕ)). take i gs ++ l) (at_drop_all (put f) gs i h ∙ sym (at_drop_all (λ (l : List (List ℕ)). f ∷ l) gs i h))

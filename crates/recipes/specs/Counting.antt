@@ -1,20 +1,17 @@
 -- How many recipes stand at or below a branch, each once. Assumes nothing.
-use Rattle.std.specs.Prelude.{◌≡◌, ℕ, ◌+◌, ◌<◌, Bool, true, false, cond, ◌&&◌, ◌||◌, List, [], ◌∷◌, map, nat_le}
+use Rattle.std.specs.Prelude.{◌≡◌, ℕ, ◌<◌, Bool, true, cond, List, [], ◌∷◌, map, count_by, nat_le}
 use Rattle.std.specs.declared.cmp.Ordering.TheVariants.{Less}
 use Rattle.facet.specs.Paths.{at_or_below, child, order}
-use Rattle.std.specs.Ordering.{is_lt, is_eq}
-use Rattle.std.specs.List.{AllByRecursion}
+use Rattle.std.specs.List.{AllByRecursion, list_all, list_any}
 use Rattle.std.specs.Str.{bytes_eq}
 
 -- some of the facets is at or below c
 abbrev pub holds : List (List ℕ) → List ℕ → Bool
-holds [] c = false
-holds (f ∷ fs) c = at_or_below f c || holds fs c
+holds fs c = list_any (λ f. at_or_below f c) fs
 
 -- how many recipes hold something at or below c
 abbrev pub recipes_at : List (List (List ℕ)) → List ℕ → ℕ
-recipes_at [] c = 0
-recipes_at (r ∷ rs) c = cond (holds r c) 1 0 + recipes_at rs c
+recipes_at rs c = count_by (λ r. holds r c) rs
 
 -- the count at c, 0 without an entry
 abbrev pub count_of : List (List ℕ × ℕ) → List ℕ → ℕ
@@ -35,19 +32,12 @@ pub record Counted (rs : List (List (List ℕ))) (p : List ℕ) (es : List (List
 
 -- every entry has the least count
 abbrev pub all_reach : ℕ → List (List ℕ × ℕ) → Bool
-all_reach n [] = true
-all_reach n (e ∷ es) = nat_le n e.1 && all_reach n es
+all_reach n es = list_all (λ e. nat_le n e.1) es
 
 -- ---- the children in order
 
 abbrev pub member : List (List ℕ) → List ℕ → Bool
-member [] c = false
-member (f ∷ fs) c = bytes_eq f c || member fs c
-
--- f at its place among the others, once
-abbrev pub put : List ℕ → List (List ℕ) → List (List ℕ)
-put f [] = f ∷ []
-put f (g ∷ gs) = cond (is_lt (order g f)) (g ∷ put f gs) (cond (is_eq (order g f)) (g ∷ gs) (f ∷ g ∷ gs))
+member fs c = list_any (λ f. bytes_eq f c) fs
 
 -- the children of p that some of the facets is at or below, in order
 pub record Children (p : List ℕ) (fs : List (List ℕ)) (cs : List (List ℕ)) : Type 0 where

@@ -1,6 +1,5 @@
 -- A list of recipes as text: a recipe a line, a name and then its facets, with tabs between. Assumes nothing.
-use Rattle.std.specs.Prelude.{◌≡◌, ℕ, suc, cond, List, [], ◌∷◌, length, drop, Some, None, Ok, Err, vec_items, Option, Result, ◌==◌}
-use Rattle.std.specs.Borrow.{Bor}
+use Rattle.std.specs.Prelude.{◌≡◌, ℕ, suc, cond, List, [], ◌∷◌, length, drop, Ok, Err, vec_items, Result, ◌==◌}
 use Rattle.facet.specs.declared.fault.FacetFault.{FacetFault}
 use Rattle.facet.specs.Pieces.{split, first_piece}
 use Rattle.facet.specs.Reading.{read}
@@ -71,13 +70,3 @@ abbrev pub Answers : {X Y : Type 0} → (Y → X) → Result X Refusal → Resul
 Answers f told (Ok y) = told ≡ Ok (f y)
 Answers f told (Err (Line e)) = told ≡ Err (told_by e)
 Answers f told (Err Memory) = Unit {0}
-
--- the pieces of what stands behind a separator
-abbrev pub behind : ℕ → Option (Bor (List ℕ)) → List (List ℕ)
-behind sep None = []
-behind sep (Some rest) = split sep rest.now
-
--- how much that is, one more than its bytes
-abbrev pub room : Option (Bor (List ℕ)) → ℕ
-room None = 0
-room (Some rest) = suc (length rest.now)

@@ -1,16 +1,16 @@
 // How many recipes stand at or below each child of a branch.
-ghost use Rattle.std.specs.Prelude.{◌≡◌, ℕ, List, ◌++◌, map, IfOk, OnOk};
+ghost use Rattle.std.specs.Prelude.{◌≡◌, map, IfOk};
 ghost use Rattle.facet.specs.Facets.{encoded_of};
-ghost use Rattle.recipes.specs.Counting.{holds as holds_at, recipes_at, Counted, all_reach, put as put_in, Children};
+ghost use Rattle.recipes.specs.Counting.{holds as holds_at, recipes_at, Counted, all_reach, Children};
 ghost use Rattle.recipes.specs.Recipes.{held_by, entry_of};
 ghost use Rattle.std.specs.List.{flat_map};
 
 use crate::recipe::Recipe;
 use facet::Facet;
 use std::alloc::{AllocError, Global};
-use std::cmp::Ordering;
+use std::collections::BTreeSet;
 
-#[derive(Clone, Copy)]
+#[derive(Clone, Copy, PartialEq, Eq)]
 pub struct Entry {
     pub facet: Facet,
     pub count: u64,
@@ -21,13 +21,7 @@ impl Recipe {
     pub fn holds(&self, branch: &Facet) -> bool
         ensures { result ≡ holds_at (held_by self.now) (encoded_of branch.now) }
     {
-        let facets = self.facets.as_slice();
-        for facet in facets {
-            if facet.is_at_or_below(branch) {
-                return true;
-            }
-        }
-        false
+        self.facets.iter().any(|facet| facet.is_at_or_below(branch))
     }
 }
 
@@ -35,53 +29,22 @@ impl Recipe {
 pub fn count_at(recipes: &[Recipe], branch: &Facet) -> u64
     ensures { result ≡ recipes_at (map held_by recipes.now) (encoded_of branch.now) }
 {
-    let mut count = 0;
+    recipes.iter().filter(|recipe| recipe.holds(branch)).count() as u64
+}
+
+// The children of the branch that some recipe is filed at or below.
+fn children(heap: Global, recipes: &[Recipe], branch: &Facet) -> Result<BTreeSet<Facet>, AllocError>
+    ensures { IfOk result (λ s. Children (encoded_of branch.now) (flat_map held_by recipes.now) (map encoded_of s.keys)) }
+{
+    let mut children = BTreeSet::new(heap);
     for recipe in recipes {
-        if recipe.holds(branch) {
-            count += 1;
+        for facet in recipe.facets.iter() {
+            if let Some(child) = branch.child_toward(facet) {
+                children.insert(child)?;
+            }
         }
     }
-    count
-}
-
-// Puts a facet at its place in an ascending list, once.
-fn put(all: &mut Vec<Facet>, facet: Facet) -> Result<(), AllocError>
-    ensures { OnOk result (map encoded_of all.new.items ≡ put_in (encoded_of facet) (map encoded_of all.old.items)) }
-{
-    let mut i = 0;
-    while i < all.len() {
-        match all[i].cmp(&facet) {
-            Ordering::Less => i += 1,
-            Ordering::Equal => return Ok(()),
-            Ordering::Greater => break,
-        }
-    }
-    all.insert(i, facet)?;
-    Ok(())
-}
-
-// Puts the children of the branch that the recipe is filed at or below to those of other recipes.
-fn put_children(all: &mut Vec<Facet>, recipe: &Recipe, branch: &Facet) -> Result<(), AllocError>
-    ensures { OnOk result ((seen : List (List ℕ)) → Children (encoded_of branch.now) seen (map encoded_of all.old.items) → Children (encoded_of branch.now) (seen ++ held_by recipe.now) (map encoded_of all.new.items)) }
-{
-    let facets = recipe.facets.as_slice();
-    for facet in facets {
-        if let Some(child) = branch.child_toward(facet) {
-            put(all, child)?;
-        }
-    }
-    Ok(())
-}
-
-// The children of the branch that some recipe is filed at or below, in the order of facets.
-fn children(heap: Global, recipes: &[Recipe], branch: &Facet) -> Result<Vec<Facet>, AllocError>
-    ensures { IfOk result (λ v. Children (encoded_of branch.now) (flat_map held_by recipes.now) (map encoded_of v.items)) }
-{
-    let mut all = Vec::new(heap);
-    for recipe in recipes {
-        put_children(&mut all, recipe, branch)?;
-    }
-    Ok(all)
+    Ok(children)
 }
 
 // Each child of the branch with the number of recipes filed at or below it, in the order of facets.
@@ -92,26 +55,19 @@ pub fn count_children(
 ) -> Result<Vec<Entry>, AllocError>
     ensures { IfOk result (λ v. Counted (map held_by recipes.now) (encoded_of branch.now) (map entry_of v.items)) }
 {
-    let all = children(heap, recipes, branch)?;
-    let facets = all.as_slice();
-    let mut entries = Vec::new(heap);
-    for facet in facets {
-        entries.push(Entry {
-            facet: *facet,
-            count: count_at(recipes, facet),
-        })?;
-    }
-    Ok(entries)
+    let children = children(heap, recipes, branch)?;
+    children
+        .iter()
+        .map(|child| Entry {
+            facet: *child,
+            count: count_at(recipes, child),
+        })
+        .collect(heap)
 }
 
 // Whether every entry reaches the minimum.
 pub fn all_reach(entries: &[Entry], min: u64) -> bool
     ensures { result ≡ all_reach min (map entry_of entries.now) }
 {
-    for entry in entries {
-        if entry.count < min {
-            return false;
-        }
-    }
-    true
+    entries.iter().all(|entry| entry.count >= min)
 }

@@ -6,7 +6,7 @@ use facet::FacetFault;
 use std::alloc::{AllocError, AllocFailed};
 
 // A text that is no facet: its line, from 1, its field, from 0 at the name, and why.
-#[derive(Clone, Copy)]
+#[derive(Clone, Copy, Debug, PartialEq, Eq)]
 pub struct LineFault<'a> {
     pub line: usize,
     pub field: usize,
@@ -14,12 +14,13 @@ pub struct LineFault<'a> {
     pub fault: FacetFault,
 }
 
-#[derive(Clone, Copy)]
+#[derive(Clone, Copy, Debug, PartialEq, Eq)]
 pub enum ListFault<'a> {
     Line(LineFault<'a>),
     Memory,
 }
 
+// both by hand, since clauses lean on what a `?` makes of them
 impl<'a> From<AllocError> for ListFault<'a> {
     ghost from_gives = { λ _ r. r ≡ Memory };
 

@@ -2,7 +2,6 @@
 #![tactic(auto)]
 
 mod count;
-mod cut;
 mod fault;
 mod line;
 mod list;

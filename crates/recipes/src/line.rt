@@ -1,13 +1,28 @@
 // One recipe from its line.
-ghost use Rattle.recipes.specs.Lines.{recipe_of, told_of, Answers};
+ghost use Rattle.facet.specs.Facets.{encoded_of};
+ghost use Rattle.facet.specs.Reading.{read};
+ghost use Rattle.recipes.specs.Lines.{placed, recipe_of, told_of, Answers};
 
-use crate::cut::cut;
 use crate::fault::{LineFault, ListFault};
 use crate::recipe::Recipe;
 use facet::Facet;
 use std::alloc::Global;
 
 const TAB: u8 = b'\t';
+
+// The facet of a field, or its refusal with its place.
+fn read_facet<'a>(line: usize, field: usize, text: &'a [u8]) -> Result<Facet, ListFault<'a>>
+    ensures { Answers encoded_of (placed line field text.now (read text.now)) result }
+{
+    Facet::from_text(text).map_err(|fault| {
+        ListFault::Line(LineFault {
+            line,
+            field,
+            text,
+            fault,
+        })
+    })
+}
 
 // The recipe of a line: its name, and then its facets, with tabs between.
 pub(crate) fn read_line<'a>(
@@ -17,25 +32,12 @@ pub(crate) fn read_line<'a>(
 ) -> Result<Recipe, ListFault<'a>>
     ensures { Answers told_of (recipe_of number line.now) result }
 {
-    let (name, mut left) = cut(line, TAB);
+    let mut fields = line.split(|b| *b == TAB).enumerate();
+    let (_, name) = fields.next().unwrap();
     let name = Vec::from_slice(heap, name)?;
     let mut facets = Vec::new(heap);
-    while let Some(fields) = left {
-        let (text, behind) = cut(fields, TAB);
-        match Facet::from_text(text) {
-            Ok(facet) => facets.push(facet)?,
-            Err(fault) => {
-                let field = facets.len() + 1;
-                let line = number;
-                return Err(ListFault::Line(LineFault {
-                    line,
-                    field,
-                    text,
-                    fault,
-                }));
-            }
-        }
-        left = behind;
+    for (field, text) in fields {
+        facets.push(read_facet(number, field, text)?)?;
     }
     Ok(Recipe { name, facets })
 }

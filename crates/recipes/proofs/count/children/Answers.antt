@@ -1,25 +1,40 @@
-use Rattle.std.proofs.Common.{◌≡◌, ℕ, ◌+◌, ◌<◌, List, [], ◌++◌, map, length, get_or, take, vec_items, sym, ap, ◌∙◌, subst}
+use Rattle.std.proofs.Common.{◌≡◌, ℕ, ◌+◌, ◌<◌, List, [], ◌∷◌, ◌++◌, map, length, get_or, take, Ordering, Less, Equal, Greater, sym, refl, ap, ◌∙◌, subst}
+use Rattle.std.proofs.lemmas.List.{append_assoc, map_more}
+use Rattle.std.specs.BTreeSet.{insert_key}
+use Rattle.std.specs.Ordering.{match_ordering}
+use Rattle.facet.specs.declared.encoded.Facet.{Facet}
 use Rattle.facet.specs.Facets.{encoded_of}
-use Rattle.std.proofs.lemmas.List.{flat_map_more, take_more, take_all}
-use Rattle.std.specs.List.{flat_map}
-use Rattle.recipes.specs.declared.recipe.Recipe.{Recipe}
+use Rattle.facet.specs.Paths.{order}
 use Rattle.recipes.specs.Counting.{Children}
-use Rattle.recipes.specs.Recipes.{held_by}
-use Rattle.recipes.proofs.Counts.{no_children}
+use Rattle.recipes.proofs.Counts.{no_child_more, child_more, put}
 use Rattle.recipes.proofs.count.children.Goals as goal
+use Rattle.recipes.proofs.count.children.Goals.{in-Some+in_ok-insert, in_default}
 
-held_more : (xs : List Recipe) (i : ℕ) (x : Recipe) → i < length xs → x ≡ get_or xs i x → flat_map held_by (take i xs) ++ held_by x ≡ flat_map held_by (take (i + 1) xs)
-held_more xs i x h e = ap (λ y. flat_map held_by (take i xs) ++ held_by y) e ∙ flat_map_more held_by [] (take i xs) (get_or xs i x) ∙ ap (flat_map held_by) (sym (take_more xs i x h))
+-- the set of facets, by their encodings
+map_insert_key : (fs : List Facet) (f : Facet) → map encoded_of (insert_key (λ x y. order (encoded_of x) (encoded_of y)) fs f) ≡ put (encoded_of f) (map encoded_of fs)
+map_insert_key [] f = refl
+map_insert_key (g ∷ fs) f = cut (order (encoded_of f) (encoded_of g)) (map_insert_key fs f)
+  where
+    cut : (o : Ordering) → map encoded_of (insert_key (λ x y. order (encoded_of x) (encoded_of y)) fs f) ≡ put (encoded_of f) (map encoded_of fs)
+        → map encoded_of (match_ordering o (f ∷ g ∷ fs) (g ∷ fs) (g ∷ insert_key (λ x y. order (encoded_of x) (encoded_of y)) fs f))
+        ≡ match_ordering o (encoded_of f ∷ encoded_of g ∷ map encoded_of fs) (encoded_of g ∷ map encoded_of fs) (encoded_of g ∷ put (encoded_of f) (map encoded_of fs))
+    cut Less h = refl
+    cut Equal h = refl
+    cut Greater h = ap (λ (l : List (List ℕ)). encoded_of g ∷ l) h
 
-pub loop-recipe-init : goal.loop-recipe-init
-loop-recipe-init c = let p = encoded_of c.args.branch.now in subst (Children p []) (ap (map encoded_of) (sym c.new-all.ensures.items)) (no_children p)
+-- the facets up to i, with that at i
+seen_more : (seen : List (List ℕ)) (xs : List Facet) (i : ℕ) (x : Facet) → i < length xs → x ≡ get_or xs i x → (seen ++ map encoded_of (take i xs)) ++ encoded_of x ∷ [] ≡ seen ++ map encoded_of (take (i + 1) xs)
+seen_more seen xs i x h e =
+    append_assoc seen (map encoded_of (take i xs)) (encoded_of x ∷ [])
+    ∙ ap (λ (l : List (List ℕ)). seen ++ l) (ap (λ y. map encoded_of (take i xs) ++ encoded_of y ∷ []) e ∙ sym (map_more encoded_of xs i x h))
 
-pub loop-recipe-preserved : goal.loop-recipe-preserved
-loop-recipe-preserved c =
-    subst (λ (l : List (List ℕ)). Children (encoded_of c.args.branch.now) l (map encoded_of (vec_items c.put_children.new.all)))
-    (held_more _ c.loop-recipe.recipe-index _ c.loop-recipe-test.true c.recipe-item.is) (c.in_ok-put_children.ensures _ c.loop-recipe.invariant)
-
-pub returns : goal.returns
-returns c =
-    subst (λ (l : List Recipe). Children (encoded_of c.args.branch.now) (flat_map held_by l) (map encoded_of (vec_items c.loop-recipe.all)))
-    (take_all c.loop-recipe.recipe-index _ c.loop-recipe-test.false) c.loop-recipe.invariant
+pub loop-facet-preserved : goal.loop-facet-preserved
+loop-facet-preserved c =
+    let p = encoded_of c.args.branch.now in
+    subst (λ (l : List (List ℕ)). Children p l (map encoded_of c.match-child_toward.children.keys)) (seen_more _ _ c.loop-facet.facet-index _ c.loop-facet-test.true c.facet-item.is)
+    (elim c.match-child_toward.branch [
+      | in-Some+in_ok-insert w ↦
+          subst (Children p _) (sym (ap (λ s. map encoded_of s.keys) w.children-is ∙ ap (map encoded_of) w.in_ok-insert.ensures.keys ∙ map_insert_key c.loop-facet.children.keys w.in-Some.child)) (child_more p _ _ _ c.loop-facet.invariant _ w.in-Some.ensures)
+      | in_default w ↦
+          subst (Children p _) (ap (λ s. map encoded_of s.keys) (sym w.children-is)) (no_child_more p _ _ _ c.loop-facet.invariant w.in_default.ensures)
+    ])

@@ -1,31 +1,17 @@
-use Rattle.std.proofs.Common.{◌≡◌, ℕ, ◌+◌, ◌<◌, List, [], ◌∷◌, ◌++◌, map, length, get_or, take, sym, ap, ◌∙◌, subst}
+use Rattle.std.proofs.Common.{map, sym, ◌∙◌, subst, rules}
+use Rattle.std.proofs.lemmas.Iterator.{YieldsList-from_map_by}
+use Rattle.std.proofs.lemmas.Iterator.Consumers.{YieldsList-from_rest, map_from_collect}
+use Rattle.std.proofs.lemmas.Result.{IfOk-weaker}
 use Rattle.facet.specs.declared.encoded.Facet.{Facet}
 use Rattle.facet.specs.Facets.{encoded_of}
-use Rattle.std.proofs.lemmas.List.{map_push, map_more, take_all}
-use Rattle.recipes.specs.declared.count.Entry.{Entry}
 use Rattle.recipes.specs.Counting.{recipes_at, Counted}
 use Rattle.recipes.specs.Recipes.{held_by, entry_of}
-use Rattle.recipes.proofs.Counts.{entries, counted}
+use Rattle.recipes.proofs.Counts.{entries_of, counted}
 use Rattle.recipes.proofs.count.count_children.Goals as goal
-
--- one entry more
-more : (g : List ℕ → ℕ) (xs : List Facet) (i : ℕ) (x : Facet) (es : List Entry) (n : ℕ) → i < length xs → x ≡ get_or xs i x → n ≡ g (encoded_of x) → map entry_of es ≡ entries g (map encoded_of (take i xs))
-    → map entry_of (es ++ record { facet = x; count = n } ∷ []) ≡ entries g (map encoded_of (take (i + 1) xs))
-more g xs i x es n h e q a =
-    map_push entry_of es (record { facet = x; count = n })
-    ∙ (λ j. a j ++ (encoded_of x, q j) ∷ [])
-    ∙ sym (map_push (λ (c : List ℕ). (c, g c)) (map encoded_of (take i xs)) (encoded_of x))
-    ∙ ap (entries g) (ap (λ y. map encoded_of (take i xs) ++ encoded_of y ∷ []) e ∙ sym (map_more encoded_of xs i x h))
-
-pub loop-facet-preserved : goal.loop-facet-preserved
-loop-facet-preserved c =
-    ap (map entry_of) c.in_ok-push.ensures.items
-    ∙ more _ _ c.loop-facet.facet-index _ _ _ c.loop-facet-test.true c.facet-item.is c.count_at.ensures c.loop-facet.invariant
 
 pub returns : goal.returns
 returns c =
-    let xs = c.args.recipes.now in
-    let p = encoded_of c.args.branch.now in
-    subst (Counted (map held_by xs) p)
-    (sym (c.loop-facet.invariant ∙ ap (λ l. entries (recipes_at (map held_by xs)) (map encoded_of l)) (take_all c.loop-facet.facet-index _ c.loop-facet-test.false ∙ c.as_slice-facets.ensures.value)))
-    (counted held_by xs p _ c.in_ok-all.ensures)
+    let n = recipes_at (map held_by c.args.recipes.now) in
+    let ks = c.in_ok-children.children.keys in
+    let e = map_from_collect _ c.collect.ensures.ran (YieldsList-from_map_by _ entry_of (λ (f : Facet). (encoded_of f, n (encoded_of f))) (YieldsList-from_rest ks cc) c.map.ensures.closure (λ x r q k. search rules)) in
+    IfOk-weaker c.collect.result _ _ (λ v q. subst (Counted (map held_by c.args.recipes.now) (encoded_of c.args.branch.now)) (sym (q ∙ entries_of n encoded_of ks)) (counted held_by c.args.recipes.now _ _ c.in_ok-children.ensures)) e

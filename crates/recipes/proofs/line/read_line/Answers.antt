@@ -1,52 +1,81 @@
-use Rattle.std.proofs.Common.{◌≡◌, ℕ, suc, ◌+◌, List, [], ◌∷◌, ◌++◌, map, get_or, drop, Ok, Err, vec_items, vec_len, sym, ap, ◌∙◌, add-one}
+use Rattle.std.proofs.Common.{◌≡◌, ℕ, suc, ◌+◌, List, [], ◌∷◌, ◌++◌, map, length, get_or, drop, eqb, Ok, vec_items, sym, refl, ap, ◌∙◌, add-one, rules, tests}
+use Rattle.std.proofs.lemmas.Iterator.Consumers.{YieldsList-at, YieldsList-from_enumerate}
+use Rattle.std.proofs.lemmas.Iterator.Splits.{YieldsList-from_slice_split}
+use Rattle.std.proofs.lemmas.List.{length_push, map_push}
+use Rattle.std.specs.List.{slice_split}
 use Rattle.facet.specs.declared.encoded.Facet.{Facet}
-use Rattle.facet.specs.declared.fault.FacetFault.{FacetFault}
 use Rattle.facet.specs.Facets.{encoded_of}
 use Rattle.facet.specs.Pieces.{split, first_piece}
 use Rattle.facet.specs.Reading.{read}
-use Rattle.std.proofs.lemmas.List.{map_push}
-use Rattle.recipes.specs.Lines.{first, placed, facets_from, recipe_of, named, behind}
-use Rattle.recipes.proofs.Cuts.{first_of_split}
-use Rattle.recipes.proofs.Lists.{ahead, ahead_first, ahead_all}
+use Rattle.recipes.specs.Lines.{first, placed, facets_from, recipe_of, named}
+use Rattle.recipes.proofs.Cuts.{first_of_split, slice_split-split, first_call, piece_more, piece_none}
+use Rattle.recipes.proofs.Lists.{ahead, ahead_first, ahead_all, passes_on}
+use Rattle.recipes.proofs.line.read_line.Given as given
 use Rattle.recipes.proofs.line.read_line.Goals as goal
 
--- one facet more
-more : (n k m : ℕ) (xs : List Facet) (f : Facet) (ys : List Facet) (fs ts : List (List ℕ)) (t : List ℕ) → fs ≡ t ∷ ts → Ok (encoded_of f) ≡ read t → ys ≡ xs ++ f ∷ [] → m ≡ k + 1
-    → ahead (map encoded_of xs) (facets_from n (suc k) fs) ≡ ahead (map encoded_of ys) (facets_from n (suc m) ts)
-more n k m xs f ys fs ts t e q y z =
+-- one facet more, of the field behind k others and the name
+more : (n k : ℕ) (xs ys : List Facet) (f : Facet) (fs ts : List (List ℕ)) (t : List ℕ) → fs ≡ t ∷ ts → placed n (suc k) t (read t) ≡ Ok (encoded_of f) → ys ≡ xs ++ f ∷ []
+    → ahead (map encoded_of xs) (facets_from n (suc k) fs) ≡ ahead (map encoded_of ys) (facets_from n (suc k + 1) ts)
+more n k xs ys f fs ts t e q y =
     ap (λ (l : List (List ℕ)). ahead (map encoded_of xs) (facets_from n (suc k) l)) e
-    ∙ ap (λ r. ahead (map encoded_of xs) (first (placed n (suc k) t r) (facets_from n (suc (suc k)) ts))) (sym q)
-    ∙ ahead_first (map encoded_of xs) (encoded_of f) (facets_from n (suc (suc k)) ts)
-    ∙ (λ i. ahead ((sym (map_push encoded_of xs f) ∙ ap (map encoded_of) (sym y)) i) (facets_from n (suc (sym (z ∙ add-one k) i)) ts))
+    ∙ (λ i. ahead (map encoded_of xs) (first (q i) (facets_from n (sym (add-one (suc k)) i) ts)))
+    ∙ ahead_first (map encoded_of xs) (encoded_of f) (facets_from n (suc k + 1) ts)
+    ∙ ap (λ l. ahead l (facets_from n (suc k + 1) ts)) (sym (map_push encoded_of xs f) ∙ ap (map encoded_of) (sym y))
 
 -- the name and the facets of a line
 whole : (n : ℕ) (line name : List ℕ) (ts : List (List ℕ)) (fs : List (List ℕ)) → split 9 line ≡ name ∷ ts → facets_from n 1 ts ≡ Ok fs → recipe_of n line ≡ Ok (name, fs)
 whole n line name ts fs e q =
     (λ i. named (first_of_split 9 line [] i) (facets_from n 1 (drop 1 (e i)))) ∙ (λ i. named (get_or (e i) 0 []) (q i))
 
--- a text is refused, at the field behind those that were read
-stopped : (n k m : ℕ) (line name t : List ℕ) (ts fs us vs : List (List ℕ)) (e : FacetFault) → split 9 line ≡ name ∷ ts → facets_from n 1 ts ≡ ahead fs (facets_from n (suc k) us) → us ≡ t ∷ vs → Err e ≡ read t → m ≡ k
-    → recipe_of n line ≡ Err (record { line = n; field = m + 1; text = t; fault = e })
-stopped n k m line name t ts fs us vs e p q u r z =
-    (λ i. named (first_piece 9 line) (facets_from n 1 (drop 1 (p i))))
-    ∙ ap (named (first_piece 9 line)) (q ∙ (λ i. ahead fs (facets_from n (suc k) (u i))) ∙ ap (λ o. ahead fs (first (placed n (suc k) t o) (facets_from n (suc (suc k)) vs))) (sym r))
-    ∙ (λ i. Err (record { line = n; field = sym (ap (λ j. j + 1) z ∙ add-one k) i; text = t; fault = e }))
+pub loop-field-preserved : goal.loop-field-preserved
+loop-field-preserved c =
+    let ps = slice_split (λ b. eqb b 9) c.args.line.now in
+    let xs = c.loop-field.yielded in
+    let y = first_call (given.iterator-loop-field).next_gives xs _ c.loop-field.field-iterator c.loop-field.yielded_by c.enumerate-fields.result c.unwrap.result _ _ c.next.ensures.steps c.unwrap.ensures c.into_iter-field-iterator.ensures.into_iter_gives in
+    let p = piece_more (c.unwrap.result ∷ xs) _ y _ _
+    c.next-in-loop-field.ensures.steps ps
+    (YieldsList-from_enumerate (YieldsList-at c.enumerate-fields.ensures.source
+    (YieldsList-from_slice_split _ (λ b. eqb b 9) c.args.line.now c.split.ensures.rest c.split.ensures.done c.split.ensures.closure (λ x r q k. search (rules, tests)))) c.enumerate-fields.ensures.count)
+    c.in-Some.field c.in-Some.text c.in-Some.is in
+    c.loop-field.invariant
+    ∙ more c.args.number (length xs) _ _ c.in_ok-read_facet.field-0 _ _ c.in-Some.text.now p.1 (ap (λ j. placed c.args.number j c.in-Some.text.now (read c.in-Some.text.now)) (sym p.0) ∙ c.in_ok-read_facet.ensures) c.in_ok-push.ensures.items
+    ∙ ap (λ j. ahead (map encoded_of (vec_items c.push.new.self)) (facets_from c.args.number j (drop j ps))) (add-one (suc (length xs)) ∙ ap suc (sym (add-one (length xs)) ∙ sym (length_push xs _)))
 
-pub loop-left-preserved : goal.loop-left-preserved
-loop-left-preserved c =
-    c.loop-left.invariant
-    ∙ ap (λ o. ahead (map encoded_of (vec_items c.loop-left.facets)) (facets_from c.args.number (suc (vec_len c.loop-left.facets)) (behind 9 o))) c.in-Some.is
-    ∙ more _ _ _ _ c.in-Ok.facet _ _ _ _ c.cut-in-Some.ensures.pieces c.in-Ok.ensures c.in_ok-push-in-Ok.ensures.items c.in_ok-push-in-Ok.ensures.len
+pub returns-in_err-read_facet : goal.returns-in_err-read_facet
+returns-in_err-read_facet c =
+    let ps = slice_split (λ b. eqb b 9) c.args.line.now in
+    let xs = c.loop-field.yielded in
+    let y = first_call (given.iterator-loop-field).next_gives xs _ c.loop-field.field-iterator c.loop-field.yielded_by c.enumerate-fields.result c.unwrap.result _ _ c.next.ensures.steps c.unwrap.ensures c.into_iter-field-iterator.ensures.into_iter_gives in
+    let p = piece_more (c.unwrap.result ∷ xs) _ y _ _
+    c.next-in-loop-field.ensures.steps ps
+    (YieldsList-from_enumerate (YieldsList-at c.enumerate-fields.ensures.source
+    (YieldsList-from_slice_split _ (λ b. eqb b 9) c.args.line.now c.split.ensures.rest c.split.ensures.done c.split.ensures.closure (λ x r q k. search (rules, tests)))) c.enumerate-fields.ensures.count)
+    c.in-Some.field c.in-Some.text c.in-Some.is in
+    let n = c.args.number in
+    let fs = map encoded_of (vec_items c.loop-field.facets) in
+    passes_on encoded_of _ _ (recipe_of n c.args.line.now)
+    (λ e h. ap (λ l. named (first_piece 9 c.args.line.now) (facets_from n 1 (drop 1 l))) (sym (slice_split-split 9 c.args.line.now))
+    ∙ ap (named (first_piece 9 c.args.line.now)) (c.loop-field.invariant
+    ∙ ap (λ l. ahead fs (facets_from n (suc (length xs)) l)) p.1
+    ∙ ap (λ o. ahead fs (first o (facets_from n (suc (suc (length xs))) (drop (suc (length xs) + 1) ps)))) (ap (λ j. placed n j c.in-Some.text.now (read c.in-Some.text.now)) (sym p.0) ∙ h)))
+    c.in_err-read_facet.field-0.0 _ c.in_err-read_facet.ensures c.from_residual-in_err-read_facet.ensures.1
 
 pub returns : goal.returns
 returns c =
-    let fs = map encoded_of (vec_items c.loop-left.facets) in
-    whole _ c.args.line.now _ _ fs c.cut.ensures.pieces
-    (c.loop-left.invariant ∙ ap (λ o. ahead fs (facets_from c.args.number (suc (vec_len c.loop-left.facets)) (behind 9 o))) c.in_default.is ∙ ahead_all fs)
+    let ps = slice_split (λ b. eqb b 9) c.args.line.now in
+    let xs = c.loop-field.yielded in
+    let n = c.args.number in
+    let fs = map encoded_of (vec_items c.loop-field.facets) in
+    let p = piece_more [] _ refl _ _ c.next.ensures.steps ps
+    (YieldsList-from_enumerate (YieldsList-at c.enumerate-fields.ensures.source
+    (YieldsList-from_slice_split _ (λ b. eqb b 9) c.args.line.now c.split.ensures.rest c.split.ensures.done c.split.ensures.closure (λ x r q k. search (rules, tests)))) c.enumerate-fields.ensures.count)
+    c.unwrap.result.0 c.unwrap.result.1 c.unwrap.ensures in
+    let y = first_call (given.iterator-loop-field).next_gives xs _ c.loop-field.field-iterator c.loop-field.yielded_by c.enumerate-fields.result c.unwrap.result _ _ c.next.ensures.steps c.unwrap.ensures c.into_iter-field-iterator.ensures.into_iter_gives in
+    let e = piece_none (c.unwrap.result ∷ xs) _ y _ _
+    c.next-in-loop-field.ensures.steps ps
+    (YieldsList-from_enumerate (YieldsList-at c.enumerate-fields.ensures.source
+    (YieldsList-from_slice_split _ (λ b. eqb b 9) c.args.line.now c.split.ensures.rest c.split.ensures.done c.split.ensures.closure (λ x r q k. search (rules, tests)))) c.enumerate-fields.ensures.count)
+    c.in-None.is in
+    whole n c.args.line.now _ _ fs (sym (slice_split-split 9 c.args.line.now) ∙ p.1)
+    (c.loop-field.invariant ∙ ap (λ l. ahead fs (facets_from n (suc (length xs)) l)) e ∙ ahead_all fs)
     ∙ ap (λ name. Ok (name, fs)) (sym c.in_ok-name.ensures.items)
-
-pub returns-in-Err : goal.returns-in-Err
-returns-in-Err c =
-    let fs = map encoded_of (vec_items c.loop-left.facets) in
-    stopped c.args.number _ _ c.args.line.now _ _ _ fs _ _ _ c.cut.ensures.pieces c.loop-left.invariant
-    (ap (behind 9) c.in-Some.is ∙ c.cut-in-Some.ensures.pieces) c.in-Err.ensures c.len-field.ensures
