@@ -22,10 +22,6 @@ use Rattle.recipes.specs.Counting.{holds, recipes_at, count_of, Ascending, Count
 pub holds_append : (fs gs : List (List ℕ)) (c : List ℕ) → holds (fs ++ gs) c ≡ (holds fs c || holds gs c)
 holds_append fs gs c = list_any-append (λ f. at_or_below f c) fs gs
 
-pub list_any-map : {X Y : Type 0} (p : Y → Bool) (f : X → Y) (xs : List X) → list_any p (map f xs) ≡ list_any (λ x. p (f x)) xs
-list_any-map p f [] = refl
-list_any-map p f (x ∷ xs) = ap (λ (t : Bool). p (f x) || t) (list_any-map p f xs)
-
 pub count_by-map : {X Y : Type 0} (p : Y → Bool) (f : X → Y) (xs : List X) → count_by p (map f xs) ≡ count_by (λ x. p (f x)) xs
 count_by-map p f [] = refl
 count_by-map p f (x ∷ xs) =
@@ -143,11 +139,6 @@ module _ (g : List ℕ → ℕ) where
       cut : (t : Bool) → bytes_eq c d ≡ t → count_of (entries cs) d ≡ cond (member cs d) (g d) 0 → cond t (g c) (count_of (entries cs) d) ≡ cond (t || member cs d) (g d) 0
       cut true e h = ap g ((bytes_eq-Decides c d).0 e)
       cut false e h = h
-
-  -- those of things that are seen as children
-  pub entries_of : {X : Type 0} (f : X → List ℕ) (xs : List X) → map (λ x. (f x, g (f x))) xs ≡ entries (map f xs)
-  entries_of f [] = refl
-  entries_of f (x ∷ xs) = ap (λ (l : List (List ℕ × ℕ)). (f x, g (f x)) ∷ l) (entries_of f xs)
 
   firsts : (cs : List (List ℕ)) → map (λ (e : List ℕ × ℕ). e.0) (entries cs) ≡ cs
   firsts [] = refl
