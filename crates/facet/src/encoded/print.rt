@@ -74,6 +74,7 @@ impl Facet {
         if buffer.len() < len {
             return Err(FacetFault::BufferTooShort);
         }
+        // by place: of a buffer lent to a zip nothing is known afterwards
         for (at, b) in self.text().enumerate() {
             buffer[at] = b;
         }
