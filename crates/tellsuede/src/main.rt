@@ -2,14 +2,17 @@
 #![tactic(auto)]
 
 mod options;
+mod refusal;
 
 use facet::Facet;
-use options::Options;
-use recipes::{LineFault, ListFault, Recipe, all_reach, count_children, entry_line, read_list};
-use std::alloc::{AllocError, AllocFailed};
+use options::{Command, Options, UsageFault};
+use recipes::{LineFault, ListFault, Recipe, all_reach, count_children, read_list};
+use refusal::Refusal;
+use std::alloc::{AllocError, Global};
 use std::io::Read;
 use std::process::ExitCode;
 use std::{env, fs, io};
+use thiserror::Error;
 
 const HELP: &str = "Counts recipes by facet.
 
@@ -29,30 +32,24 @@ A text that is no facet is named by its file, line, text and refusal on standard
 and the status is 1.
 ";
 
-// Why the program ends early.
-#[derive(Drop)]
+// Why the program ends early. An `anyhow::Error` keeps only 120 bytes of a message.
+#[derive(Debug, Drop, Error)]
 enum Ended {
-    Io(io::Error),
-    // what is wrong is printed already
-    Told,
-}
-
-impl From<io::Error> for Ended {
-    fn from(error: io::Error) -> Ended {
-        Ended::Io(error)
-    }
-}
-
-impl From<AllocError> for Ended {
-    fn from(error: AllocError) -> Ended {
-        Ended::Io(io::Error::from(error))
-    }
-}
-
-impl<T: Drop> From<AllocFailed<T>> for Ended {
-    fn from(_refused: AllocFailed<T>) -> Ended {
-        Ended::Io(io::Error::from(AllocError))
-    }
+    #[error("tellsuede: {0}")]
+    Io(#[from] io::Error),
+    #[error("tellsuede: out of memory")]
+    Memory(#[from(alloc)] AllocError),
+    #[error("tellsuede: {0}; --help says more")]
+    Usage(#[from] UsageFault),
+    #[error("tellsuede: {0}: {1}")]
+    File(String, io::Error),
+    #[error("{file}:{line}: {text}: {refusal}")]
+    Refused {
+        file: String,
+        line: usize,
+        text: String,
+        refusal: Refusal,
+    },
 }
 
 // A list with the name of its file.
@@ -65,84 +62,61 @@ struct List {
 fn main(rt: HostRuntime) -> ExitCode {
     match run(&rt) {
         Ok(()) => ExitCode::SUCCESS,
-        Err(Ended::Told) => ExitCode::FAILURE,
-        Err(Ended::Io(error)) => {
-            let _ = eprintln!(rt; "tellsuede: {error}");
+        Err(ended) => {
+            let _ = eprintln!(rt; "{ended}");
             ExitCode::FAILURE
         }
     }
 }
 
 fn run(rt: &HostRuntime) -> Result<(), Ended> {
-    let options = match Options::read(rt.alloc(), env::args(rt)?) {
-        Ok(options) => options,
-        Err(fault) => {
-            eprintln!(rt; "tellsuede: {fault}; --help says more")?;
-            return Err(Ended::Told);
-        }
-    };
-    if options.help {
-        rt.print(HELP)?;
-        return Ok(());
+    match Command::read(rt.alloc(), env::args(rt)?)? {
+        Command::Help => rt.print(HELP)?,
+        Command::Count(options) => count(rt, &options)?,
     }
+    Ok(())
+}
+
+// Reads every list, and then prints what is counted in each.
+fn count(rt: &HostRuntime, options: &Options) -> Result<(), Ended> {
     let mut lists = Vec::new(rt.alloc());
     for file in options.files.iter() {
         lists.push(read(rt, file.as_str())?)?;
     }
     for list in lists.iter() {
-        print_list(rt, list, &options)?;
+        print_list(rt, list, options)?;
     }
     Ok(())
 }
 
 // The list in a file, or in standard input for `-`.
 fn read(rt: &HostRuntime, file: &str) -> Result<List, Ended> {
-    let text = read_text(rt, file)?;
-    match read_list(rt.alloc(), text.as_slice()) {
-        Ok(recipes) => Ok(List {
-            name: String::from_str(rt.alloc(), file)?,
-            recipes,
-        }),
-        Err(ListFault::Line(fault)) => {
-            tell(rt, file, &fault)?;
-            Err(Ended::Told)
-        }
-        Err(ListFault::Memory) => Err(Ended::from(AllocError)),
-    }
-}
-
-fn read_text(rt: &HostRuntime, file: &str) -> Result<Vec<u8>, Ended> {
+    let name = String::from_str(rt.alloc(), file)?;
     if file == "-" {
-        read_input(rt)
-    } else {
-        read_file(rt, file)
+        let mut text = Vec::new(rt.alloc());
+        rt.stdin().read_to_end(&mut text)?;
+        return parse(rt.alloc(), name, &text);
     }
-}
-
-fn read_input(rt: &HostRuntime) -> Result<Vec<u8>, Ended> {
-    let mut text = Vec::new(rt.alloc());
-    rt.stdin().read_to_end(&mut text)?;
-    Ok(text)
-}
-
-fn read_file(rt: &HostRuntime, file: &str) -> Result<Vec<u8>, Ended> {
     match fs::read(rt, file) {
-        Ok(text) => Ok(text),
-        Err(error) => {
-            eprintln!(rt; "tellsuede: {file}: {error}")?;
-            Err(Ended::Told)
-        }
+        Ok(text) => parse(rt.alloc(), name, &text),
+        Err(error) => Err(Ended::File(name, error)),
     }
 }
 
-// Names a text that is refused.
-fn tell(rt: &HostRuntime, file: &str, refused: &LineFault) -> Result<(), Ended> {
-    let line = refused.line;
-    let text = String::from_utf8_lossy(rt.alloc(), refused.text)?;
-    let fault = refused.fault;
-    let number = fault.number();
-    eprintln!(rt; "{file}:{line}: {text}: refusal {number}, {fault}")?;
-    Ok(())
+// The list of a text, or the first text in it that is no facet.
+fn parse(heap: Global, name: String, text: &[u8]) -> Result<List, Ended> {
+    match read_list(heap, text) {
+        Ok(recipes) => Ok(List { name, recipes }),
+        Err(ListFault::Memory) => Err(Ended::Memory(AllocError)),
+        Err(ListFault::Line(LineFault {
+            line, text, fault, ..
+        })) => Err(Ended::Refused {
+            file: name,
+            line,
+            text: String::from_utf8_lossy(heap, text)?,
+            refusal: Refusal(fault),
+        }),
+    }
 }
 
 fn print_list(rt: &HostRuntime, list: &List, options: &Options) -> Result<(), Ended> {
@@ -164,16 +138,17 @@ fn print_branch(
     let entries = count_children(rt.alloc(), recipes, branch)?;
     println!(rt; "below {branch}:")?;
     for entry in entries.iter() {
-        rt.println(entry_line(rt.alloc(), entry)?)?;
+        println!(rt; "{entry}")?;
     }
     if let Some(min) = min {
-        if entries.is_empty() {
-            println!(rt; "minimum {min}: no child")?;
-        } else if all_reach(entries.as_slice(), min) {
-            println!(rt; "minimum {min}: reached by every child")?;
+        let verdict = if entries.is_empty() {
+            "no child"
+        } else if all_reach(&entries, min) {
+            "reached by every child"
         } else {
-            println!(rt; "minimum {min}: not reached by every child")?;
-        }
+            "not reached by every child"
+        };
+        println!(rt; "minimum {min}: {verdict}")?;
     }
     Ok(())
 }

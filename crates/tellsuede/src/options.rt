@@ -1,147 +1,98 @@
 // The words of the command line.
-ghost use Rattle.std.specs.Prelude.{◌≡◌, ◌+◌, ◌<◌, IfOk, vec_len, OnOk};
+ghost use Rattle.std.specs.Prelude.{◌≡◌, ◌<◌, Ok, IfOk, OnErr, IsErr, string_bytes, vec_len};
+ghost use Rattle.std.specs.Str.Parse.{ParsesUnsigned};
+ghost use Rattle.facet.specs.Facets.{encoded_of};
+ghost use Rattle.facet.specs.Reading.{read};
 
-use facet::{Facet, FacetFault};
-use std::alloc::{AllocError, AllocFailed, Global};
+use crate::refusal::Refusal;
+use facet::Facet;
+use std::alloc::{AllocError, Global};
 use std::env::Args;
-use std::fmt;
+use thiserror::Error;
+
+#[derive(Drop)]
+pub enum Command {
+    Help,
+    Count(Options),
+}
 
 #[derive(Drop)]
 pub struct Options {
     pub files: Vec<String>,
     pub branches: Vec<Facet>,
     pub min: Option<u64>,
-    pub help: bool,
+    ghost some_file: { 0 < vec_len files },
+    ghost some_branch: { 0 < vec_len branches },
 }
 
-#[derive(Drop)]
+#[derive(Debug, Drop, Error)]
 pub enum UsageFault {
+    #[error("--at wants a facet")]
     NoFacet,
+    #[error("--min wants a number")]
     NoMinimum,
-    Facet(String, FacetFault),
+    #[error("--at {0}: {1}")]
+    Facet(String, Refusal),
+    #[error("--min {0}: not a number from 0 to 18446744073709551615")]
     Minimum(String),
+    #[error("{0}: no such option")]
     Unknown(String),
-    Memory,
+    #[error("out of memory")]
+    Memory(#[from(alloc)] AllocError),
 }
 
-impl From<AllocError> for UsageFault {
-    fn from(_error: AllocError) -> UsageFault {
-        UsageFault::Memory
-    }
+fn read_branch(word: String) -> Result<Facet, UsageFault>
+    ensures value { IfOk result (λ f. read (string_bytes word) ≡ Ok (encoded_of f)) }
+    ensures refused { OnErr result (IsErr (read (string_bytes word))) }
+{
+    Facet::from_text(word.as_bytes()).map_err(|fault| UsageFault::Facet(word, Refusal(fault)))
 }
 
-impl<T: Drop> From<AllocFailed<T>> for UsageFault {
-    fn from(_refused: AllocFailed<T>) -> UsageFault {
-        UsageFault::Memory
-    }
+fn read_minimum(word: String) -> Result<u64, UsageFault>
+    ensures { ParsesUnsigned 64 10 (string_bytes word) result }
+{
+    word.parse::<u64>().map_err(|_| UsageFault::Minimum(word))
 }
 
-impl fmt::Display for UsageFault {
-    fn fmt<W: fmt::Write>(&self, f: &mut fmt::Formatter<W>) -> fmt::Result {
-        match self {
-            UsageFault::NoFacet => f.write_str("--at wants a facet"),
-            UsageFault::NoMinimum => f.write_str("--min wants a number"),
-            UsageFault::Facet(word, fault) => {
-                let number = fault.number();
-                write!(f, "--at {word}: refusal {number}, {fault}")
-            }
-            UsageFault::Minimum(word) => write!(
-                f,
-                "--min {word}: not a number from 0 to 18446744073709551615"
-            ),
-            UsageFault::Unknown(word) => write!(f, "{word}: no such option"),
-            UsageFault::Memory => f.write_str("out of memory"),
-        }
-    }
-}
-
-// What the next word is for.
-#[derive(Clone, Copy)]
-enum Wanted {
-    Any,
-    Facet,
-    Minimum,
-}
-
-impl Options {
-    // The options that the words give, of which the first is the program's name.
-    pub fn read(heap: Global, words: Args) -> Result<Options, UsageFault>
-        ensures { IfOk result (λ o. (0 < vec_len o.branches) × (0 < vec_len o.files)) }
-    {
-        let mut options = Options {
-            files: Vec::new(heap),
-            branches: Vec::new(heap),
-            min: None,
-            help: false,
-        };
-        let mut wanted = Wanted::Any;
-        for word in words.skip(1) {
-            wanted = match wanted {
-                Wanted::Any => options.take(word)?,
-                Wanted::Facet => options.take_branch(word)?,
-                Wanted::Minimum => options.take_minimum(word)?,
-            };
-        }
-        match wanted {
-            Wanted::Any => options.filled(heap),
-            Wanted::Facet => Err(UsageFault::NoFacet),
-            Wanted::Minimum => Err(UsageFault::NoMinimum),
-        }
-    }
-
-    fn take(&mut self, word: String) -> Result<Wanted, UsageFault> {
-        match word.as_str() {
-            "--at" => Ok(Wanted::Facet),
-            "--min" => Ok(Wanted::Minimum),
-            "--help" => {
-                self.help = true;
-                Ok(Wanted::Any)
-            }
-            text => {
-                if text.len() > 1 && text.starts_with('-') {
+impl Command {
+    // What the words ask for, of which the first is the program's name.
+    pub fn read(heap: Global, words: Args) -> Result<Command, UsageFault> {
+        let mut files = Vec::new(heap);
+        let mut branches = Vec::new(heap);
+        let mut min = None;
+        let mut help = false;
+        let mut words = words.skip(1);
+        while let Some(word) = words.next() {
+            match word.as_str() {
+                "--at" => {
+                    let word = words.next().ok_or(UsageFault::NoFacet)?;
+                    branches.push(read_branch(word)?)?;
+                }
+                "--min" => {
+                    let word = words.next().ok_or(UsageFault::NoMinimum)?;
+                    min = Some(read_minimum(word)?);
+                }
+                "--help" => help = true,
+                text if text.len() > 1 && text.starts_with('-') => {
                     return Err(UsageFault::Unknown(word));
                 }
-                self.files.push(word)?;
-                Ok(Wanted::Any)
+                _ => files.push(word)?,
             }
         }
-    }
-
-    fn take_branch(&mut self, word: String) -> Result<Wanted, UsageFault>
-        ensures { (OnOk result (vec_len self.new.branches ≡ vec_len self.old.branches + 1)) × (self.new.files ≡ self.old.files) }
-    {
-        match Facet::from_text(word.as_bytes()) {
-            Ok(branch) => {
-                self.branches.push(branch)?;
-                Ok(Wanted::Any)
-            }
-            Err(fault) => Err(UsageFault::Facet(word, fault)),
+        if help {
+            return Ok(Command::Help);
         }
-    }
-
-    fn take_minimum(&mut self, word: String) -> Result<Wanted, UsageFault>
-        ensures { (self.new.branches ≡ self.old.branches) × (self.new.files ≡ self.old.files) }
-    {
-        match word.as_str().parse::<u64>() {
-            Ok(min) => {
-                self.min = Some(min);
-                Ok(Wanted::Any)
-            }
-            Err(_) => Err(UsageFault::Minimum(word)),
+        // the root where no branch is named, and standard input where no file is
+        if branches.is_empty() {
+            branches.push(Facet::root())?;
         }
-    }
-
-    // The root where no branch is named, and standard input where no file is.
-    fn filled(self, heap: Global) -> Result<Options, UsageFault>
-        ensures { IfOk result (λ o. (0 < vec_len o.branches) × (0 < vec_len o.files)) }
-    {
-        let mut options = self;
-        if options.branches.is_empty() {
-            options.branches.push(Facet::root())?;
+        if files.is_empty() {
+            files.push(String::from_str(heap, "-")?)?;
         }
-        if options.files.is_empty() {
-            options.files.push(String::from_str(heap, "-")?)?;
-        }
-        Ok(options)
+        Ok(Command::Count(Options {
+            files,
+            branches,
+            min,
+        }))
     }
 }
