@@ -1,6 +1,5 @@
 // How many recipes stand at or below each child of a branch.
 ghost use Rattle.std.specs.Prelude.{◌≡◌, ℕ, List, ◌++◌, map, IfOk, OnOk};
-ghost use Rattle.facet.specs.Facets.{encoded_of};
 ghost use Rattle.recipes.specs.Counting.{holds as holds_at, recipes_at, Counted, all_reach, put as put_in, Children};
 ghost use Rattle.recipes.specs.Recipes.{held_by, entry_of};
 ghost use Rattle.std.specs.List.{flat_map};
@@ -19,7 +18,7 @@ pub struct Entry {
 impl Recipe {
     // Whether the recipe is filed at or below the branch.
     pub fn holds(&self, branch: &Facet) -> bool
-        ensures { result ≡ holds_at (held_by self.now) (encoded_of branch.now) }
+        ensures { result ≡ holds_at (held_by self.now) branch.now }
     {
         let facets = self.facets.as_slice();
         for facet in facets {
@@ -33,7 +32,7 @@ impl Recipe {
 
 // How many recipes are filed at or below the branch, each counted once.
 pub fn count_at(recipes: &[Recipe], branch: &Facet) -> u64
-    ensures { result ≡ recipes_at (map held_by recipes.now) (encoded_of branch.now) }
+    ensures { result ≡ recipes_at (map held_by recipes.now) branch.now }
 {
     let mut count = 0;
     for recipe in recipes {
@@ -46,7 +45,7 @@ pub fn count_at(recipes: &[Recipe], branch: &Facet) -> u64
 
 // Puts a facet at its place in an ascending list, once.
 fn put(all: &mut Vec<Facet>, facet: Facet) -> Result<(), AllocError>
-    ensures { OnOk result (map encoded_of all.new.items ≡ put_in (encoded_of facet) (map encoded_of all.old.items)) }
+    ensures { OnOk result (all.new.items ≡ put_in facet all.old.items) }
 {
     let mut i = 0;
     while i < all.len() {
@@ -62,7 +61,7 @@ fn put(all: &mut Vec<Facet>, facet: Facet) -> Result<(), AllocError>
 
 // Puts the children of the branch that the recipe is filed at or below to those of other recipes.
 fn put_children(all: &mut Vec<Facet>, recipe: &Recipe, branch: &Facet) -> Result<(), AllocError>
-    ensures { OnOk result ((seen : List (List ℕ)) → Children (encoded_of branch.now) seen (map encoded_of all.old.items) → Children (encoded_of branch.now) (seen ++ held_by recipe.now) (map encoded_of all.new.items)) }
+    ensures { OnOk result ((seen : List (List ℕ)) → Children branch.now seen all.old.items → Children branch.now (seen ++ held_by recipe.now) all.new.items) }
 {
     let facets = recipe.facets.as_slice();
     for facet in facets {
@@ -75,7 +74,7 @@ fn put_children(all: &mut Vec<Facet>, recipe: &Recipe, branch: &Facet) -> Result
 
 // The children of the branch that some recipe is filed at or below, in the order of facets.
 fn children(heap: Global, recipes: &[Recipe], branch: &Facet) -> Result<Vec<Facet>, AllocError>
-    ensures { IfOk result (λ v. Children (encoded_of branch.now) (flat_map held_by recipes.now) (map encoded_of v.items)) }
+    ensures { IfOk result (λ v. Children branch.now (flat_map held_by recipes.now) v.items) }
 {
     let mut all = Vec::new(heap);
     for recipe in recipes {
@@ -90,7 +89,7 @@ pub fn count_children(
     recipes: &[Recipe],
     branch: &Facet,
 ) -> Result<Vec<Entry>, AllocError>
-    ensures { IfOk result (λ v. Counted (map held_by recipes.now) (encoded_of branch.now) (map entry_of v.items)) }
+    ensures { IfOk result (λ v. Counted (map held_by recipes.now) branch.now (map entry_of v.items)) }
 {
     let all = children(heap, recipes, branch)?;
     let facets = all.as_slice();

@@ -1,5 +1,4 @@
 use Rattle.std.proofs.Common.{◌≡◌, ℕ, ◌+◌, ◌<◌, Bool, true, false, cond, List, map, length, get_or, drop, sym, ap, ◌∙◌, arith}
-use Rattle.facet.specs.Facets.{encoded_of}
 use Rattle.std.proofs.lemmas.List.{at_drop_all}
 use Rattle.recipes.specs.declared.recipe.Recipe.{Recipe}
 use Rattle.recipes.specs.Counting.{holds, recipes_at}
@@ -15,7 +14,7 @@ pub loop-recipe-preserved : goal.loop-recipe-preserved
 loop-recipe-preserved c =
     let xs = c.args.recipes.now in
     let i = c.loop-recipe.recipe-index in
-    let b = encoded_of c.args.branch.now in
+    let b = c.args.branch.now in
     elim c.if-holds.branch [
       | then-holds w ↦
           let e = from xs i _ b true c.loop-recipe-test.true c.recipe-item.is w.if-holds.ensures in
@@ -27,5 +26,5 @@ loop-recipe-preserved c =
 
 pub returns : goal.returns
 returns c =
-    let e = at_drop_all (λ l. recipes_at (map held_by l) (encoded_of c.args.branch.now)) c.args.recipes.now c.loop-recipe.recipe-index c.loop-recipe-test.false in
+    let e = at_drop_all (λ l. recipes_at (map held_by l) c.args.branch.now) c.args.recipes.now c.loop-recipe.recipe-index c.loop-recipe-test.false in
     omega (arith, c.loop-recipe.invariant.0)

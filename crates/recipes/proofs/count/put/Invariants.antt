@@ -1,11 +1,10 @@
-use Rattle.std.proofs.Common.{◌≡◌, ◌-◌, ◌≤◌, ◌++◌, map, take, drop, vec_items, vec_len}
-use Rattle.facet.specs.Facets.{encoded_of}
+use Rattle.std.proofs.Common.{◌≡◌, ◌-◌, ◌≤◌, ◌++◌, take, drop, vec_items, vec_len}
 use Rattle.recipes.specs.Counting.{put}
 use Rattle.recipes.proofs.count.put.Given as goal
 
 abbrev pub invariant-loop-i : goal.invariant-loop-i
 invariant-loop-i l =
-    (put (encoded_of l.facet) (map encoded_of (vec_items l.all)) ≡ take l.i (map encoded_of (vec_items l.all)) ++ put (encoded_of l.facet) (drop l.i (map encoded_of (vec_items l.all))))
+    (put l.facet (vec_items l.all) ≡ take l.i (vec_items l.all) ++ put l.facet (drop l.i (vec_items l.all)))
     × (l.i ≤ vec_len l.all)
 
 abbrev pub decreases-loop-i : goal.decreases-loop-i
