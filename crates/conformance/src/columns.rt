@@ -36,15 +36,6 @@ impl fmt::Display for Refusal {
     }
 }
 
-pub fn made(tables: Tables) -> Column {
-    Column::new(
-        tables.term_bytes,
-        tables.term_ends,
-        tables.row_ends,
-        tables.ordinals,
-    )
-}
-
 pub fn show_column(rt: &HostRuntime, column: &Column) -> io::Result<()> {
     let terms = column.num_terms();
     let rows = column.num_rows();
@@ -53,14 +44,14 @@ pub fn show_column(rt: &HostRuntime, column: &Column) -> io::Result<()> {
 
 // Checks the tables, and shows how much a column of them holds.
 pub fn answer(rt: &HostRuntime, t: Tables) -> io::Result<()> {
-    match Column::check(t.term_bytes, t.term_ends, t.row_ends, t.ordinals) {
+    match Column::check(t) {
         Ok(()) => print!(rt; "ok, ")?,
         Err(fault) => {
             let why = Refusal(fault);
             print!(rt; "{why}, ")?;
         }
     }
-    show_column(rt, &made(t))
+    show_column(rt, &Column::new(t))
 }
 
 fn case(rt: &HostRuntime, t: Tables) -> io::Result<()> {
