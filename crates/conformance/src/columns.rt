@@ -20,13 +20,14 @@ impl<'a> fmt::Display for Numbers<'a> {
     }
 }
 
-pub fn made(tables: Tables) -> Column {
-    Column::new(
-        tables.term_bytes,
-        tables.term_ends,
-        tables.row_ends,
-        tables.ordinals,
-    )
+// The tables of terms without rows.
+pub fn only_terms<'a>(term_bytes: &'a [u8], term_ends: &'a [u32]) -> Tables<'a> {
+    Tables {
+        term_bytes,
+        term_ends,
+        row_ends: &[],
+        ordinals: &[],
+    }
 }
 
 pub fn show_column(rt: &HostRuntime, column: &Column) -> io::Result<()> {
@@ -37,14 +38,14 @@ pub fn show_column(rt: &HostRuntime, column: &Column) -> io::Result<()> {
 
 // Checks the tables, and shows how much a column of them holds.
 pub fn answer(rt: &HostRuntime, t: Tables) -> io::Result<()> {
-    match Column::check(t.term_bytes, t.term_ends, t.row_ends, t.ordinals) {
+    match Column::check(t) {
         Ok(()) => print!(rt; "ok, ")?,
         Err(fault) => {
             let why = Refusal(fault);
             print!(rt; "{why}, ")?;
         }
     }
-    show_column(rt, &made(t))
+    show_column(rt, &Column::new(t))
 }
 
 fn case(rt: &HostRuntime, t: Tables) -> io::Result<()> {
@@ -105,15 +106,7 @@ const TERMS: [(&[u8], &[u32]); 34] = [
 
 fn terms(rt: &HostRuntime) -> io::Result<()> {
     for (term_bytes, term_ends) in TERMS {
-        case(
-            rt,
-            Tables {
-                term_bytes,
-                term_ends,
-                row_ends: &[],
-                ordinals: &[],
-            },
-        )?;
+        case(rt, only_terms(term_bytes, term_ends))?;
     }
     Ok(())
 }

@@ -1,6 +1,6 @@
 // A small segment, and what is read back of it.
 use crate::cases::Quoted;
-use crate::columns::{Numbers, answer, made};
+use crate::columns::{Numbers, answer};
 use segment::{Column, Tables};
 use std::io;
 
@@ -43,7 +43,7 @@ fn row(rt: &HostRuntime, column: &Column, doc: u32) -> io::Result<()> {
 pub fn run(rt: &HostRuntime) -> io::Result<()> {
     print!(rt; "sample: ")?;
     answer(rt, SAMPLE)?;
-    let column = made(SAMPLE);
+    let column = Column::new(SAMPLE);
     for ordinal in ORDINALS {
         term(rt, &column, ordinal)?;
     }

@@ -1,5 +1,5 @@
 // A column has at most 4,096 terms of at most 127 bytes, and at most 65,535 rows.
-use crate::columns::answer;
+use crate::columns::{answer, only_terms};
 use segment::Tables;
 use std::alloc::{AllocError, Global};
 use std::io;
@@ -11,15 +11,7 @@ fn terms<'a>(
     term_ends: &'a [u32],
 ) -> io::Result<()> {
     print!(rt; "{name}: ")?;
-    answer(
-        rt,
-        Tables {
-            term_bytes,
-            term_ends,
-            row_ends: &[],
-            ordinals: &[],
-        },
-    )
+    answer(rt, only_terms(term_bytes, term_ends))
 }
 
 // 64 times 64 terms of two bytes.

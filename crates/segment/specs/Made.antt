@@ -1,5 +1,5 @@
 -- What a segment holds. Assumes nothing.
-use Rattle.std.specs.Prelude.{◌≡◌, ℕ, zero, suc, Bool, true, false, cond, ◌&&◌, List, [], ◌∷◌, None, Option, MatchOption, nat_lt}
+use Rattle.std.specs.Prelude.{◌≡◌, ℕ, zero, suc, Bool, true, false, cond, ◌&&◌, List, [], ◌∷◌, None, Option, nat_lt}
 use Rattle.std.specs.Borrow.{Bor}
 use Rattle.segment.specs.declared.column.Column.{Column}
 use Rattle.segment.specs.declared.field.Field.{Field}

@@ -1,4 +1,4 @@
-use Rattle.std.proofs.Common.{◌≡◌, true, false, sym, ◌∙◌, arith, rules}
+use Rattle.std.proofs.Common.{◌≡◌, true, false, sym, ◌∙◌, rules}
 use Rattle.segment.proofs.Firsts.{at_place, past_all}
 use Rattle.segment.proofs.first.all_pass.Goals as goal
 

@@ -1,4 +1,4 @@
-use Rattle.std.proofs.Common.{◌≡◌, ◌+◌, ◌<◌, leb, length, sym, ap, ◌∙◌, arith, rules}
+use Rattle.std.proofs.Common.{◌+◌, ◌<◌, leb, length, sym, ap, ◌∙◌, arith, rules}
 use Rattle.std.specs.Result.{result_err}
 use Rattle.segment.specs.Columns.{after}
 use Rattle.segment.proofs.Firsts.{within_all}

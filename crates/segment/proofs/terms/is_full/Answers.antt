@@ -3,7 +3,6 @@ use borrow.Author.Tests.{tests}
 use Rattle.std.proofs.lemmas.Bool.{eqb-false}
 use Rattle.std.proofs.lemmas.Iterator.Search.{all_from_yields_List}
 use Rattle.std.proofs.lemmas.Iterator.Splits.{YieldsList-from_slice_split}
-use Rattle.std.specs.List.{slice_split}
 use Rattle.segment.specs.Columns.{full}
 use Rattle.segment.proofs.Steps.{steps_split}
 use Rattle.segment.proofs.terms.is_full.Goals as goal
