@@ -9,6 +9,8 @@ use options::{Command, Options, UsageFault};
 use recipes::{LineFault, ListFault, Recipe, all_reach, count_children, read_list};
 use refusal::Refusal;
 use std::alloc::{AllocError, Global};
+use std::env::Env;
+use std::fs::Files;
 use std::io::Read;
 use std::process::ExitCode;
 use std::{env, fs, io};
@@ -69,7 +71,7 @@ fn main(rt: HostRuntime) -> ExitCode {
     }
 }
 
-fn run(rt: &HostRuntime) -> Result<(), Ended> {
+fn run(rt: &(impl Env + Files + Input + Print + AllocGlobal)) -> Result<(), Ended> {
     match Command::read(rt.alloc(), env::args(rt)?)? {
         Command::Help => rt.print(HELP)?,
         Command::Count(options) => count(rt, &options)?,
@@ -78,7 +80,7 @@ fn run(rt: &HostRuntime) -> Result<(), Ended> {
 }
 
 // Reads every list, and then prints what is counted in each.
-fn count(rt: &HostRuntime, options: &Options) -> Result<(), Ended> {
+fn count(rt: &(impl Files + Input + Print + AllocGlobal), options: &Options) -> Result<(), Ended> {
     let mut lists = Vec::new(rt.alloc());
     for file in options.files.iter() {
         lists.push(read(rt, file.as_str())?)?;
@@ -90,11 +92,11 @@ fn count(rt: &HostRuntime, options: &Options) -> Result<(), Ended> {
 }
 
 // The list in a file, or in standard input for `-`.
-fn read(rt: &HostRuntime, file: &str) -> Result<List, Ended> {
+fn read(rt: &(impl Files + Input + AllocGlobal), file: &str) -> Result<List, Ended> {
     let name = String::from_str(rt.alloc(), file)?;
     if file == "-" {
         let mut text = Vec::new(rt.alloc());
-        rt.stdin().read_to_end(&mut text)?;
+        rt.reader().read_to_end(&mut text)?;
         return parse(rt.alloc(), name, &text);
     }
     match fs::read(rt, file) {
@@ -108,9 +110,16 @@ fn parse(heap: Global, name: String, text: &[u8]) -> Result<List, Ended> {
     match read_list(heap, text) {
         Ok(recipes) => Ok(List { name, recipes }),
         Err(ListFault::Memory) => Err(Ended::Memory(AllocError)),
-        Err(ListFault::Line(LineFault {
-            line, text, fault, ..
-        })) => Err(Ended::Refused {
+        Err(
+            ListFault::Line(
+                LineFault {
+                    line,
+                    text,
+                    fault,
+                    ..
+                },
+            ),
+        ) => Err(Ended::Refused {
             file: name,
             line,
             text: String::from_utf8_lossy(heap, text)?,
@@ -119,7 +128,11 @@ fn parse(heap: Global, name: String, text: &[u8]) -> Result<List, Ended> {
     }
 }
 
-fn print_list(rt: &HostRuntime, list: &List, options: &Options) -> Result<(), Ended> {
+fn print_list(
+    rt: &(impl Print + AllocGlobal),
+    list: &List,
+    options: &Options,
+) -> Result<(), Ended> {
     let name = list.name.as_str();
     let count = list.recipes.len();
     println!(rt; "{name}, recipes: {count}")?;
@@ -130,7 +143,7 @@ fn print_list(rt: &HostRuntime, list: &List, options: &Options) -> Result<(), En
 }
 
 fn print_branch(
-    rt: &HostRuntime,
+    rt: &(impl Print + AllocGlobal),
     recipes: &[Recipe],
     branch: &Facet,
     min: Option<u64>,
