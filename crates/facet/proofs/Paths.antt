@@ -254,13 +254,6 @@ child_is_way (a ∷ p) f d c l =
     put (drop (suc (length (a ∷ p))) f) (ap first_step (ap (drop (suc (length (a ∷ p)))) (v.1 ∙ append_assoc (a ∷ p) (0 ∷ s) (0 ∷ v.0)) ∙ behind (a ∷ p) (s ++ 0 ∷ v.0)) ∙ (first_is s v.0 z).1))
     (or_cases (bytes_eq f d) (above d f) l)
 
--- what f is at or below, below p, has p above f
-leads_below : (p f d : List ℕ) → above p d ≡ true → at_or_below f d ≡ true → above p f ≡ true
-leads_below p f d h l =
-    ⊎_elim (λ (q : bytes_eq f d ≡ true). subst (λ (x : List ℕ). above p x ≡ true) (sym ((bytes_eq-Decides f d).0 q)) h)
-    (λ (q : above d f ≡ true). above_chain p d f h q)
-    (or_cases (bytes_eq f d) (above d f) l)
-
 at_or_below_from : (f c : List ℕ) → (f ≡ c) ⊎ ((r : List ℕ) × (f ≡ c ++ 0 ∷ r)) → 0 < length c → at_or_below f c ≡ true
 at_or_below_from f c (inl h) z = or_left (bytes_eq f c) (above c f) (subst (λ (x : List ℕ). bytes_eq x c ≡ true) (sym h) ((bytes_eq-Decides c c).1 refl))
 at_or_below_from f [] (inr h) z = absurd (omega arith)
