@@ -1,6 +1,7 @@
 -- Collectors that count documents. Assumes nothing.
 use Rattle.std.specs.Prelude.{ℕ, ◌+◌, Bool, true, false, cond, None, nat_le, Float}
 use Rattle.collector.specs.Meaning.{Meaning}
+use Rattle.collector.specs.Scores.{reaches}
 
 -- documents whose score passes a test, each worth 1; a count fits up to 4294967295
 abbrev pub counting : Bool → (Float → Bool) → Meaning ℕ
@@ -17,3 +18,7 @@ counting scored test = record {
 -- all documents, whatever their score
 abbrev pub count_m : Meaning ℕ
 count_m = counting false (λ _. true)
+
+-- the documents whose score reaches a floor
+abbrev pub floor_m : Float → Meaning ℕ
+floor_m floor = counting true (reaches floor)

@@ -10,8 +10,8 @@ use crate::fault::{CollectingFault, OpeningFault};
 use docset::DocId;
 use segment::Segment;
 
-// The sum of two counts, where it fits. This is all that `Count` and `Floor` share in code: one impl for both would be
-// for every type that tests scores, and would overlap with those of tuples.
+// The sum of two counts, where it fits: how `Count` and `Floor` both join their fruits. What else they share is one line
+// in each, and a trait that held it would be no plainer.
 pub(crate) fn merge_counts(left: &u32, right: &u32) -> Result<u32, CollectingFault>
     ensures { result ≡ merged count_m left.now right.now }
 {

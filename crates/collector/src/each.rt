@@ -22,7 +22,7 @@ pub fn collect_each<C: Collector>(
     ensures parts { Alone C.Collector.places collector.now ordinal (contents segment.now) docs.now (result_map_both C.Collector.value (λ e. e) result) }
 {
     let mut child = collector.for_segment(ordinal, segment)?;
-    // A loop: a closure that changes the child would leave nothing known of it.
+    // A loop: `?` leaves it at the first refusal, and a closure that changes the child would be no plainer.
     for (doc, score) in docs {
         collector.collect(segment, &mut child, *doc, *score)?;
     }

@@ -1,7 +1,7 @@
 // How many documents have a score that reaches a floor.
 ghost use Rattle.std.specs.Prelude.{◌≡◌, ℕ, true, false, MatchResult, is_nan};
 ghost use Rattle.std.specs.Float.Ieee.{eq as equal};
-ghost use Rattle.collector.specs.Counts.{counting};
+ghost use Rattle.collector.specs.Counts.{floor_m};
 ghost use Rattle.collector.specs.Places.{itself as only, no_facets};
 ghost use Rattle.collector.specs.Scores.{reaches};
 ghost use Rattle.collector.specs.declared.fault.FloorFault.TheVariants.{NotANumber};
@@ -49,7 +49,7 @@ impl Collector for Floor {
 
     ghost value = { λ n. n };
 
-    ghost meaning = { λ f. counting true (reaches f.floor) };
+    ghost meaning = { λ f. floor_m f.floor };
 
     ghost same = { λ f g. equal f.floor g.floor };
 
@@ -57,7 +57,7 @@ impl Collector for Floor {
 
     ghost held = { λ _ _ k. k };
 
-    ghost places = { only (λ f. counting true (reaches f.floor)) (λ f g. equal f.floor g.floor) no_facets };
+    ghost places = { only (λ f. floor_m f.floor) (λ f g. equal f.floor g.floor) no_facets };
 
     ghost lawful = { λ c. floor_lawful c.floor };
 
