@@ -55,8 +55,8 @@ impl ColumnFault {
             | ColumnFault::EmptyStep(place)
             | ColumnFault::TermOrder(place)
             | ColumnFault::RowEnds(place)
-            | ColumnFault::NoTerm(place)
-            | ColumnFault::OrdinalOrder(place) => Some(place),
+            | ColumnFault::OrdinalOrder(place)
+            | ColumnFault::NoTerm(place) => Some(place),
         }
     }
 }

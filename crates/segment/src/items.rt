@@ -17,7 +17,7 @@ pub struct Items<'a, T> {
 
 impl<'a, T> Copy for Items<'a, T> {}
 
-// A derive wants a `T` that is `Copy`.
+// By hand, since a derive wants a `T` that is `Copy`.
 impl<'a, T> Clone for Items<'a, T> {
     ghost is_clone = { λ s r. r ≡ s };
 
