@@ -7,6 +7,7 @@ use Rattle.utf8.specs.Octets.{Span, octets, utf8}
 use Rattle.utf8.proofs.Laws.{High, ascii_step, beyond_step, low_ends}
 use Rattle.facet.specs.declared.fault.FacetFault.TheVariants.{TextTooLong, NotUtf8, TooLong}
 use Rattle.facet.specs.Reading.{read, slashed, limited}
+use Rattle.facet.specs.Laws.{IsTextOf}
 use Rattle.facet.specs.Text.{unescaped, printed, shown}
 use Rattle.facet.specs.Paths.{above}
 use Rattle.facet.proofs.Paths.{way, at_or_below_rest, on_the_way}
@@ -62,7 +63,7 @@ octets_shown (b ∷ f) ss h e = cut (eqb b 0) (eqb b 47 || eqb b 92) refl refl (
         (ascii_step 92 (b ∷ flat_map shown f) (omega arith) ∙ ascii_step b (flat_map shown f) l ∙ k [] tt z.1)
     cut false false p q k = keeps ss b f (flat_map shown f) h e k
 
-pub utf8_printed : (f : List ℕ) → utf8 f ≡ true → utf8 (printed f) ≡ true
+utf8_printed : (f : List ℕ) → utf8 f ≡ true → utf8 (printed f) ≡ true
 utf8_printed f e = ap utf8 (printed_is f) ∙ ascii_step 47 (flat_map shown f) (omega arith) ∙ octets_shown f [] tt e
 
 -- what stands before an ASCII byte
@@ -87,7 +88,7 @@ text_front text buffer after n e w =
     let z : n - 0 ≡ n = omega arith in
     (λ i. take (z i) (w i)) ∙ take_at text (drop n buffer) n (sym e)
 
-pub length_printed : (f : List ℕ) → length f ≤ 127 → length (printed f) ≤ 255
+length_printed : (f : List ℕ) → length f ≤ 127 → length (printed f) ≤ 255
 length_printed f l = let h = length_joined f in let e = ap length (printed_is f) in omega arith
 
 pub reads_back : (f : List ℕ) → length f ≤ 127 → utf8 f ≡ true → read (printed f) ≡ Ok f
@@ -95,3 +96,6 @@ reads_back f l u =
     (λ i. cond (le-ltb 255 (length (printed f)) (length_printed f l) i) (Err TextTooLong) (cond (utf8_printed f u i) (slashed (printed_is f i)) (Err NotUtf8)))
     ∙ ap limited (unescaped_joined f)
     ∙ ap (λ (t : Bool). cond t (Err TooLong) (Ok f)) (le-ltb 127 (length f) l)
+
+pub text_of : (f : List ℕ) → length f ≤ 127 → utf8 f ≡ true → IsTextOf f (printed f)
+text_of f l u = record { bound = length_printed f l; is_utf8 = utf8_printed f u; reads_back = reads_back f l u }

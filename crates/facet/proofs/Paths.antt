@@ -4,6 +4,8 @@ use Rattle.std.proofs.lemmas.List.{drop_more}
 use Rattle.std.proofs.lemmas.Bool.{eqb-true, eq-eqb, cases_lt, cases_order, and_parts, and_from, or_cases, or_left, or_right, both_ways}
 use Rattle.std.proofs.lemmas.Slice.Eq.{bytes_eq-Decides}
 use Rattle.std.proofs.lemmas.Bool.Decides.{nat_tests}
+use Rattle.std.proofs.lemmas.List.Recursion.{is_count_by}
+use Rattle.std.specs.List.{count_by}
 use Rattle.std.specs.Ordering.{ordering_then, nat_cmp}
 use Rattle.std.specs.Str.{bytes_eq}
 use Rattle.facet.specs.Laws.{Prefix, OnTheWay, NoWay}
@@ -152,6 +154,13 @@ abbrev pub zeros : List ℕ → ℕ
 zeros [] = 0
 zeros (b ∷ bs) = cond (eqb b 0) 1 0 + zeros bs
 
+zeros_is : (f : List ℕ) → zeros f ≡ count_by (λ b. eqb b 0) f
+zeros_is = is_count_by zeros (λ b. eqb b 0) refl (λ b bs. adds (eqb b 0) (zeros bs))
+  where
+    adds : (t : Bool) (n : ℕ) → cond t 1 0 + n ≡ cond t (1 + n) n
+    adds true n = refl
+    adds false n = omega arith
+
 length_grow : (b : ℕ) (ps : List (List ℕ)) → 0 < length ps → length (grow b ps) ≡ length ps
 length_grow b [] h = absurd (omega arith)
 length_grow b (p ∷ ps) h = refl
@@ -184,9 +193,9 @@ zeros_append (b ∷ f) g = let h = zeros_append f g in omega arith
 depth_cons : (b : ℕ) (bs : List ℕ) → depth (b ∷ bs) ≡ suc (zeros (b ∷ bs))
 depth_cons b bs = length_split (b ∷ bs)
 
-pub depth_is : (f : List ℕ) → (length f ≡ 0 → ⊥) → depth f ≡ suc (zeros f)
+pub depth_is : (f : List ℕ) → (length f ≡ 0 → ⊥) → depth f ≡ count_by (λ b. eqb b 0) f + 1
 depth_is [] n = absurd (n refl)
-depth_is (b ∷ f) n = depth_cons b f
+depth_is (b ∷ f) n = depth_cons b f ∙ ap suc (zeros_is (b ∷ f)) ∙ omega arith
 
 zeros_first : (s : List ℕ) → zeros (first_step s) ≡ 0
 zeros_first [] = refl

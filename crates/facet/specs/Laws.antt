@@ -45,6 +45,12 @@ StepsJoin = (f : List ℕ) → join 0 (steps f) ≡ f
 abbrev pub ReadsBack : Type 0
 ReadsBack = (f : List ℕ) → length f ≤ 127 → utf8 f ≡ true → read (printed f) ≡ Ok f
 
+-- the text of f is short, and UTF-8, and read as f
+pub record IsTextOf (f text : List ℕ) : Type 0 where
+  pub bound : length text ≤ 255
+  pub is_utf8 : utf8 text ≡ true
+  pub reads_back : read text ≡ Ok f
+
 -- a text is written whole at the front of a buffer that it fits, and else not at all
 abbrev pub Printed : List ℕ → List ℕ → Result ℕ FacetFault → List ℕ → Type 0
 Printed text buffer (Ok n) after = (n ≡ length text) × (length text ≤ length buffer) × (after ≡ text ++ drop n buffer)

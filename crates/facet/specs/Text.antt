@@ -1,5 +1,5 @@
 -- The text of a facet. Assumes nothing.
-use Rattle.std.specs.Prelude.{ℕ, Bool, true, false, cond, ◌||◌, List, [], ◌∷◌, ◌==◌}
+use Rattle.std.specs.Prelude.{ℕ, Bool, true, false, cond, ◌||◌, List, [], ◌∷◌, Option, Some, None, ◌==◌}
 use Rattle.std.specs.List.{flat_map}
 use Rattle.facet.specs.Paths.{steps}
 
@@ -24,3 +24,8 @@ printed (b ∷ bs) = flat_map (λ (step : List ℕ). 47 ∷ escaped step) (steps
 -- the text of one byte of an encoding
 abbrev pub shown : ℕ → List ℕ
 shown b = cond (b == 0) (47 ∷ []) (cond (b == 47 || b == 92) (92 ∷ b ∷ []) (b ∷ []))
+
+-- the text of an encoding behind a byte that is still to come
+abbrev pub shown_behind : Option ℕ → List ℕ → List ℕ
+shown_behind None f = flat_map shown f
+shown_behind (Some b) f = b ∷ flat_map shown f

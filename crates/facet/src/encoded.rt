@@ -1,6 +1,5 @@
 // A facet by its encoding: its steps joined by byte 00, and nothing for the root.
-ghost use Rattle.std.specs.Prelude.{◌≡◌, ℕ, ◌≤◌, true, length, take, slice_index};
-ghost use Rattle.utf8.specs.Octets.{utf8};
+use std::marker::Model;
 
 pub mod order;
 pub mod path;
@@ -15,8 +14,21 @@ const SEPARATOR: u8 = 0;
 pub struct Facet {
     bytes: [u8; 127],
     len: u8,
-    ghost full: { length bytes ≡ 127 },
-    ghost within: { len ≤ 127 },
-    ghost text: { utf8 (take len bytes) ≡ true },
-    ghost padded: { ((k : ℕ) → len ≤ k → slice_index bytes k ≡ 0) },
+}
+
+// Clauses see the encoding.
+impl Model for Facet {
+    ghost use Rattle.std.specs.Prelude.{ℕ, List};
+
+    ghost Value = { List ℕ };
+
+    ghost use Rattle.facet.specs.Padded.{front, IsPadded, padded, padded-front};
+
+    ghost view = { front };
+
+    ghost invariant = { IsPadded };
+
+    ghost inverse = { padded };
+
+    ghost inverse_ok = { padded-front };
 }

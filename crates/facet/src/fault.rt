@@ -39,6 +39,7 @@ impl FacetFault {
     }
 }
 
+// By hand, for the promised text: a derive gives no `output`.
 impl fmt::Display for FacetFault {
     ghost output = { λ e. Some (meaning_of e) };
 

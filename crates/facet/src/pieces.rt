@@ -6,10 +6,8 @@ ghost use Rattle.facet.specs.Pieces.{first_piece};
 pub fn piece_len(bytes: &[u8], separator: u8) -> usize
     ensures { result ≡ length (first_piece separator bytes.now) }
 {
-    for (i, b) in bytes.iter().enumerate() {
-        if *b == separator {
-            return i;
-        }
-    }
-    bytes.len()
+    bytes
+        .iter()
+        .position(|b| *b == separator)
+        .unwrap_or(bytes.len())
 }

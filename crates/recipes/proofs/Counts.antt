@@ -9,7 +9,7 @@ use Rattle.std.proofs.lemmas.List.Folds.{list_any-append}
 use Rattle.std.proofs.lemmas.List.Sums.{sum_by-cons}
 use Rattle.std.proofs.lemmas.Bool.{or_cases, or_left, or_right, both_ways, cases_lt, lt-ltb, ltb-true}
 use Rattle.std.proofs.lemmas.Bool.Decides.{nat_tests}
-use Rattle.std.specs.List.{flat_map, list_any, count_by, AllByRecursion}
+use Rattle.std.specs.List.{flat_map, AllByRecursion}
 use Rattle.std.specs.Cmp.{nat_cmp_total}
 use Rattle.std.specs.Cmp.Lexicographic.{lists_total}
 use Rattle.std.specs.BTreeSet.{insert_key}
@@ -21,15 +21,6 @@ use Rattle.recipes.specs.Counting.{holds, recipes_at, count_of, Ascending, Count
 
 pub holds_append : (fs gs : List (List ℕ)) (c : List ℕ) → holds (fs ++ gs) c ≡ (holds fs c || holds gs c)
 holds_append fs gs c = list_any-append (λ f. at_or_below f c) fs gs
-
-pub list_any-map : {X Y : Type 0} (p : Y → Bool) (f : X → Y) (xs : List X) → list_any p (map f xs) ≡ list_any (λ x. p (f x)) xs
-list_any-map p f [] = refl
-list_any-map p f (x ∷ xs) = ap (λ (t : Bool). p (f x) || t) (list_any-map p f xs)
-
-pub count_by-map : {X Y : Type 0} (p : Y → Bool) (f : X → Y) (xs : List X) → count_by p (map f xs) ≡ count_by (λ x. p (f x)) xs
-count_by-map p f [] = refl
-count_by-map p f (x ∷ xs) =
-    sum_by-cons (λ y. cond (p y) 1 0) (f x) (map f xs) ∙ ap (λ (n : ℕ). cond (p (f x)) 1 0 + n) (count_by-map p f xs) ∙ sym (sum_by-cons (λ y. cond (p (f y)) 1 0) x xs)
 
 -- some recipe holds what all of them together hold
 pub some_hold : {X : Type 0} (f : X → List (List ℕ)) (xs : List X) (c : List ℕ) → holds (flat_map f xs) c ≡ ltb 0 (recipes_at (map f xs) c)
@@ -143,11 +134,6 @@ module _ (g : List ℕ → ℕ) where
       cut : (t : Bool) → bytes_eq c d ≡ t → count_of (entries cs) d ≡ cond (member cs d) (g d) 0 → cond t (g c) (count_of (entries cs) d) ≡ cond (t || member cs d) (g d) 0
       cut true e h = ap g ((bytes_eq-Decides c d).0 e)
       cut false e h = h
-
-  -- those of things that are seen as children
-  pub entries_of : {X : Type 0} (f : X → List ℕ) (xs : List X) → map (λ x. (f x, g (f x))) xs ≡ entries (map f xs)
-  entries_of f [] = refl
-  entries_of f (x ∷ xs) = ap (λ (l : List (List ℕ × ℕ)). (f x, g (f x)) ∷ l) (entries_of f xs)
 
   firsts : (cs : List (List ℕ)) → map (λ (e : List ℕ × ℕ). e.0) (entries cs) ≡ cs
   firsts [] = refl

@@ -1,13 +1,12 @@
 -- What a recipe and an entry mean. Assumes nothing.
-use Rattle.std.specs.Prelude.{ℕ, List, map, vec_items}
-use Rattle.facet.specs.Facets.{encoded_of}
+use Rattle.std.specs.Prelude.{ℕ, List, vec_items}
 use Rattle.recipes.specs.declared.recipe.Recipe.{Recipe}
 use Rattle.recipes.specs.declared.count.Entry.{Entry}
 
 -- the facets that a recipe is filed under, by their encodings
 abbrev pub held_by : Recipe → List (List ℕ)
-held_by r = map encoded_of (vec_items r.facets)
+held_by r = vec_items r.facets
 
 -- a facet with its count
 abbrev pub entry_of : Entry → List ℕ × ℕ
-entry_of e = (encoded_of e.facet, e.count)
+entry_of e = (e.facet, e.count)

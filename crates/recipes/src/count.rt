@@ -1,6 +1,5 @@
 // How many recipes stand at or below each child of a branch.
 ghost use Rattle.std.specs.Prelude.{◌≡◌, map, IfOk};
-ghost use Rattle.facet.specs.Facets.{encoded_of};
 ghost use Rattle.recipes.specs.Counting.{holds as holds_at, recipes_at, Counted, all_reach, Children};
 ghost use Rattle.recipes.specs.Recipes.{held_by, entry_of};
 ghost use Rattle.std.specs.List.{flat_map};
@@ -19,7 +18,7 @@ pub struct Entry {
 impl Recipe {
     // Whether the recipe is filed at or below the branch.
     pub fn holds(&self, branch: &Facet) -> bool
-        ensures { result ≡ holds_at (held_by self.now) (encoded_of branch.now) }
+        ensures { result ≡ holds_at (held_by self.now) branch.now }
     {
         self.facets.iter().any(|facet| facet.is_at_or_below(branch))
     }
@@ -27,14 +26,14 @@ impl Recipe {
 
 // How many recipes are filed at or below the branch, each counted once.
 pub fn count_at(recipes: &[Recipe], branch: &Facet) -> u64
-    ensures { result ≡ recipes_at (map held_by recipes.now) (encoded_of branch.now) }
+    ensures { result ≡ recipes_at (map held_by recipes.now) branch.now }
 {
     recipes.iter().filter(|recipe| recipe.holds(branch)).count() as u64
 }
 
 // The children of the branch that some recipe is filed at or below.
 fn children(heap: Global, recipes: &[Recipe], branch: &Facet) -> Result<BTreeSet<Facet>, AllocError>
-    ensures { IfOk result (λ s. Children (encoded_of branch.now) (flat_map held_by recipes.now) (map encoded_of s.keys)) }
+    ensures { IfOk result (λ s. Children branch.now (flat_map held_by recipes.now) s.keys) }
 {
     let mut children = BTreeSet::new(heap);
     for recipe in recipes {
@@ -53,7 +52,7 @@ pub fn count_children(
     recipes: &[Recipe],
     branch: &Facet,
 ) -> Result<Vec<Entry>, AllocError>
-    ensures { IfOk result (λ v. Counted (map held_by recipes.now) (encoded_of branch.now) (map entry_of v.items)) }
+    ensures { IfOk result (λ v. Counted (map held_by recipes.now) branch.now (map entry_of v.items)) }
 {
     let children = children(heap, recipes, branch)?;
     children

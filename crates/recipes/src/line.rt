@@ -1,5 +1,4 @@
 // One recipe from its line.
-ghost use Rattle.facet.specs.Facets.{encoded_of};
 ghost use Rattle.facet.specs.Reading.{read};
 ghost use Rattle.recipes.specs.Lines.{placed, recipe_of, told_of, Answers};
 
@@ -12,7 +11,7 @@ const TAB: u8 = b'\t';
 
 // The facet of a field, or its refusal with its place.
 fn read_facet<'a>(line: usize, field: usize, text: &'a [u8]) -> Result<Facet, ListFault<'a>>
-    ensures { Answers encoded_of (placed line field text.now (read text.now)) result }
+    ensures { Answers (λ f. f) (placed line field text.now (read text.now)) result }
 {
     Facet::from_text(text).map_err(|fault| {
         ListFault::Line(LineFault {

@@ -1,7 +1,6 @@
 // The words of the command line.
 ghost use Rattle.std.specs.Prelude.{◌≡◌, ◌<◌, Ok, IfOk, OnErr, IsErr, string_bytes, vec_len};
 ghost use Rattle.std.specs.Str.Parse.{ParsesUnsigned};
-ghost use Rattle.facet.specs.Facets.{encoded_of};
 ghost use Rattle.facet.specs.Reading.{read};
 
 use crate::refusal::Refusal;
@@ -41,13 +40,15 @@ pub enum UsageFault {
     Memory(#[from(alloc)] AllocError),
 }
 
+// The facet behind `--at`.
 fn read_branch(word: String) -> Result<Facet, UsageFault>
-    ensures value { IfOk result (λ f. read (string_bytes word) ≡ Ok (encoded_of f)) }
+    ensures value { IfOk result (λ f. read (string_bytes word) ≡ Ok f) }
     ensures refused { OnErr result (IsErr (read (string_bytes word))) }
 {
     Facet::from_text(word.as_bytes()).map_err(|fault| UsageFault::Facet(word, Refusal(fault)))
 }
 
+// The number behind `--min`.
 fn read_minimum(word: String) -> Result<u64, UsageFault>
     ensures { ParsesUnsigned 64 10 (string_bytes word) result }
 {

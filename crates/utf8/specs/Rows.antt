@@ -1,5 +1,6 @@
 -- What a row of the table of lead bytes says. Assumes nothing.
 use Rattle.std.specs.Prelude.{ℕ, Bool, true, false, cond, ◌&&◌, List, [], ◌∷◌, ◌==◌, nat_le}
+use Rattle.utf8.specs.declared.Row.{Row}
 use Rattle.utf8.specs.Octets.{Span, span, within, tail}
 
 -- the bytes above the ASCII bytes that a UTF8-char begins with
@@ -31,6 +32,6 @@ same_spans [] (t ∷ ts) = false
 same_spans (s ∷ ss) [] = false
 same_spans (s ∷ ss) (t ∷ ts) = same_span s t && same_spans ss ts
 
--- a row of n, lo and hi says what follows the lead byte b
-abbrev pub row_says : ℕ → ℕ → ℕ → ℕ → Bool
-row_says b n lo hi = within (span 2 4) n && same_spans (follows b) (span lo hi ∷ tails n)
+-- a row says what follows the lead byte b
+abbrev pub row_says : ℕ → Row → Bool
+row_says b r = within (span 2 4) r.len && same_spans (follows b) (span r.low r.high ∷ tails r.len)

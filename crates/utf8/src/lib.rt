@@ -1,9 +1,9 @@
 // UTF-8 by a table of lead bytes.
 #![tactic(auto)]
 
-ghost use Rattle.std.specs.Prelude.{◌≡◌, ◌<◌, ◌≤◌, true, false, length, IsUtf8, Decides, MatchOption};
+ghost use Rattle.std.specs.Prelude.{◌≡◌, ◌<◌, ◌≤◌, true, false, length, IsUtf8, Decides, IsNone, IfSome};
 ghost use Rattle.utf8.specs.Octets.{utf8, octets, within, tail};
-ghost use Rattle.utf8.specs.Rows.{row_says, tails};
+ghost use Rattle.utf8.specs.Rows.{lead, row_says, tails};
 
 // What follows a lead byte: how many bytes the sequence has, and the bounds of the second.
 #[derive(Clone, Copy)]
@@ -61,9 +61,7 @@ const AFTER_F4: Row = Row {
 
 const FIRST_LEAD: u8 = 0xc2;
 
-const LAST_LEAD: u8 = 0xf4;
-
-// The rows of the lead bytes from the first to the last.
+// The rows of the lead bytes, C2 to F4.
 const ROWS: [Row; 51] = [
     TWO, TWO, TWO, TWO, TWO, TWO, TWO, TWO, TWO, TWO, TWO, TWO, TWO, TWO, TWO, TWO, TWO, TWO, TWO,
     TWO, TWO, TWO, TWO, TWO, TWO, TWO, TWO, TWO, TWO, TWO, AFTER_E0, THREE, THREE, THREE, THREE,
@@ -71,23 +69,28 @@ const ROWS: [Row; 51] = [
     FOUR, FOUR, AFTER_F4,
 ];
 
-fn row_of(lead: u8) -> Row
-    requires { (0xC2 ≤ lead) × (lead ≤ 0xF4) }
-    ensures { row_says lead result.len result.low result.high ≡ true }
+fn row_of(byte: u8) -> Option<Row>
+    ensures none { IsNone result → lead byte ≡ false }
+    ensures some { IfSome result (λ _. lead byte ≡ true) }
+    ensures row { IfSome result (λ r. row_says byte r ≡ true) }
 {
-    ROWS[(lead - FIRST_LEAD) as usize]
+    let place = byte.checked_sub(FIRST_LEAD)?;
+    ROWS.get(place as usize).copied()
 }
 
 fn is_tail(byte: u8) -> bool
     ensures { result ≡ within tail byte }
 {
-    0x80 <= byte && byte <= 0xbf
+    matches!(byte, 0x80..=0xbf)
 }
 
 // What is left behind the tails of a sequence of `len` bytes, of which the first two are gone.
 fn after_tails(len: u8, bytes: &[u8]) -> Option<&[u8]>
-    requires { (2 ≤ len) × (len ≤ 4) }
-    ensures { MatchOption result (octets (tails len) bytes.now ≡ false) (λ rest. (octets (tails len) bytes.now ≡ utf8 rest.now) × (length rest.now ≤ length bytes.now)) }
+    requires low { 2 ≤ len }
+    requires high { len ≤ 4 }
+    ensures none { IsNone result → octets (tails len) bytes.now ≡ false }
+    ensures same { IfSome result (λ rest. octets (tails len) bytes.now ≡ utf8 rest.now) }
+    ensures shorter { IfSome result (λ rest. length rest.now ≤ length bytes.now) }
 {
     match (len, bytes) {
         (2, rest) => Some(rest),
@@ -100,13 +103,15 @@ fn after_tails(len: u8, bytes: &[u8]) -> Option<&[u8]>
 // What is left behind the first character.
 fn after_char(bytes: &[u8]) -> Option<&[u8]>
     requires { 0 < length bytes.now }
-    ensures { MatchOption result (utf8 bytes.now ≡ false) (λ rest. (utf8 bytes.now ≡ utf8 rest.now) × (length rest.now < length bytes.now)) }
+    ensures none { IsNone result → utf8 bytes.now ≡ false }
+    ensures same { IfSome result (λ rest. utf8 bytes.now ≡ utf8 rest.now) }
+    ensures shorter { IfSome result (λ rest. length rest.now < length bytes.now) }
 {
     match bytes {
-        [ascii, rest @ ..] if *ascii < 0x80 => Some(rest),
-        [lead, second, rest @ ..] if FIRST_LEAD <= *lead && *lead <= LAST_LEAD => {
-            let row = row_of(*lead);
-            if *second < row.low || row.high < *second {
+        [ascii, rest @ ..] if ascii.is_ascii() => Some(rest),
+        [lead, second, rest @ ..] => {
+            let row = row_of(*lead)?;
+            if !(row.low..=row.high).contains(second) {
                 return None;
             }
             after_tails(row.len, rest)

@@ -1,6 +1,5 @@
 // Facets as paths.
 ghost use Rattle.std.specs.Prelude.{◌≡◌, length, MatchOption};
-ghost use Rattle.facet.specs.Facets.{encoded_of};
 ghost use Rattle.facet.specs.Laws.{Prefix, OnTheWay, NoWay};
 ghost use Rattle.facet.specs.Paths.{steps, depth as steps_of, first_step, above, child_offset, at_or_below};
 ghost use Rattle.facet.specs.Pieces.{join};
@@ -32,39 +31,33 @@ pub fn is_above(encoded: &[u8], below: &[u8]) -> bool
 impl Facet {
     // How many steps there are.
     pub fn depth(&self) -> u8
-        ensures value { result ≡ steps_of (encoded_of self.now) }
-        ensures joined { join 0 (steps (encoded_of self.now)) ≡ encoded_of self.now }
+        ensures value { result ≡ steps_of self.now }
+        ensures joined { join 0 (steps self.now) ≡ self.now }
     {
-        let encoded = self.encoded();
-        if encoded.is_empty() {
+        if self.is_root() {
             return 0;
         }
-        let mut depth = 1;
-        for b in encoded {
-            if *b == SEPARATOR {
-                depth += 1;
-            }
-        }
-        depth
+        let separators = self.encoded().iter().filter(|b| **b == SEPARATOR).count();
+        separators as u8 + 1
     }
 
     // Whether this facet is above the other.
     pub fn is_prefix_of(&self, other: &Facet) -> bool
-        ensures { Prefix (encoded_of self.now) (encoded_of other.now) result }
+        ensures { Prefix self.now other.now result }
     {
         is_above(self.encoded(), other.encoded())
     }
 
     // Whether this facet is the branch, or below it.
     pub fn is_at_or_below(&self, branch: &Facet) -> bool
-        ensures { result ≡ at_or_below (encoded_of self.now) (encoded_of branch.now) }
+        ensures { result ≡ at_or_below self.now branch.now }
     {
         *self == *branch || branch.is_prefix_of(self)
     }
 
     // Where in a facet below this one the step of the child begins.
     pub fn child_offset(&self) -> usize
-        ensures { result ≡ child_offset (encoded_of self.now) }
+        ensures { result ≡ child_offset self.now }
     {
         // the root has no separator behind it
         if self.is_root() {
@@ -76,7 +69,7 @@ impl Facet {
 
     // The child of this facet that the other is at or below.
     pub fn child_toward(&self, other: &Facet) -> Option<Facet>
-        ensures { MatchOption result (NoWay (encoded_of self.now) (encoded_of other.now)) (λ c. OnTheWay (encoded_of self.now) (encoded_of other.now) (encoded_of c)) }
+        ensures { MatchOption result (NoWay self.now other.now) (OnTheWay self.now other.now) }
     {
         if !self.is_prefix_of(other) {
             return None;
@@ -88,6 +81,6 @@ impl Facet {
         if end == 0 {
             return None;
         }
-        Some(Facet::hold(&below[0..end]))
+        Some(Facet::hold(&below[..end]))
     }
 }

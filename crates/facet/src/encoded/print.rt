@@ -1,8 +1,8 @@
 // The text of a facet.
-ghost use Rattle.std.specs.Prelude.{◌≡◌, ◌+◌, ◌<◌, ◌≤◌, ◌||◌, ◌++◌, length, take, drop, Some, Ok, ◌==◌};
-ghost use Rattle.facet.specs.Facets.{encoded_of, answer_of};
-ghost use Rattle.facet.specs.Laws.{Printed, ReadsBack, WorkedCases};
-ghost use Rattle.facet.specs.Text.{printed, shown};
+ghost use Rattle.std.specs.Prelude.{◌≡◌, ◌||◌, length, Some, Ok, ◌==◌};
+ghost use Rattle.std.specs.Iterator.{YieldsFirst, item_count};
+ghost use Rattle.facet.specs.Laws.{IsTextOf, Printed, ReadsBack, WorkedCases};
+ghost use Rattle.facet.specs.Text.{printed, shown_behind};
 
 use super::{Facet, SEPARATOR};
 use crate::fault::FacetFault;
@@ -13,86 +13,94 @@ use std::str::from_utf8_unchecked;
 fn is_escaped(b: u8) -> bool
     ensures { result ≡ (b == 47 || b == 92) }
 {
-    b == b'/' || b == b'\\'
+    matches!(b, b'/' | b'\\')
 }
 
-// How long the text of one byte of an encoding is.
-fn shown_len(b: u8) -> usize
-    ensures { result ≡ length (shown b) }
-{
-    if is_escaped(b) { 2 } else { 1 }
+// The bytes of the text of an encoding.
+#[derive(Drop)]
+struct Escaped<'a> {
+    // comes before what is left
+    first: Option<u8>,
+    left: &'a [u8],
 }
 
-// Writes the text of one byte of an encoding, and answers the place behind it.
-fn put(buffer: &mut [u8], at: usize, b: u8) -> usize
-    requires { at + length (shown b) ≤ length buffer.old }
-    ensures end { result ≡ at + length (shown b) }
-    ensures written { buffer.new ≡ take at buffer.old ++ (shown b ++ drop result buffer.old) }
-{
-    if b == SEPARATOR {
-        buffer[at] = b'/';
-        return at + 1;
+impl<'a> Iterator for Escaped<'a> {
+    type Item = u8;
+
+    ghost next_gives = { YieldsFirst (λ s. shown_behind s.first s.left.now) };
+
+    ghost remaining = { item_count (λ s. shown_behind s.first s.left.now) };
+
+    fn next(&mut self) -> Option<u8> {
+        if let Some(b) = self.first.take() {
+            return Some(b);
+        }
+        let (b, left) = self.left.split_first()?;
+        self.left = left;
+        if is_escaped(*b) {
+            self.first = Some(*b);
+            return Some(b'\\');
+        }
+        Some(if *b == SEPARATOR { b'/' } else { *b })
     }
-    if is_escaped(b) {
-        buffer[at] = b'\\';
-        buffer[at + 1] = b;
-        return at + 2;
-    }
-    buffer[at] = b;
-    at + 1
 }
 
 impl Facet {
+    // A slash, and then the text of each byte.
+    fn text(&self) -> Escaped<'_>
+        ensures value { shown_behind result.first result.left.now ≡ printed self.now }
+        ensures text { IsTextOf self.now (printed self.now) }
+    {
+        Escaped {
+            first: Some(b'/'),
+            left: self.encoded(),
+        }
+    }
+
     // How long the text is.
     fn printed_len(&self) -> usize
-        ensures { (result ≡ length (printed (encoded_of self.now))) × (result ≤ 255) }
+        ensures value { result ≡ length (printed self.now) }
+        ensures text { IsTextOf self.now (printed self.now) }
     {
-        let encoded = self.encoded();
-        let mut len = 1;
-        for b in encoded {
-            len += shown_len(*b);
-        }
-        len
+        self.text().count()
     }
 
     // Writes the text into the buffer, and answers how long it is.
     pub fn print(&self, buffer: &mut [u8]) -> Result<usize, FacetFault>
-        ensures { Printed (printed (encoded_of self.now)) buffer.old result buffer.new }
+        ensures written { Printed (printed self.now) buffer.old result buffer.new }
+        ensures text { IsTextOf self.now (printed self.now) }
     {
-        if buffer.len() < self.printed_len() {
+        let len = self.printed_len();
+        if buffer.len() < len {
             return Err(FacetFault::BufferTooShort);
         }
-        buffer[0] = b'/';
-        let encoded = self.encoded();
-        let mut at = 1;
-        for b in encoded {
-            at = put(buffer, at, *b);
+        // by place: of a buffer lent to a zip nothing is known afterwards
+        for (at, b) in self.text().enumerate() {
+            buffer[at] = b;
         }
-        Ok(at)
+        Ok(len)
     }
 
     // Reads the facet's own text, which gives the facet back.
     pub fn reread(&self) -> Result<Facet, FacetFault>
-        ensures value { answer_of result ≡ Ok (encoded_of self.now) }
+        ensures value { result ≡ Ok self.now }
         ensures law { ReadsBack }
         ensures worked { WorkedCases }
     {
         let mut text = [0; 255];
-        match self.print(&mut text) {
-            Ok(len) => Facet::from_text(&text[0..len]),
-            Err(fault) => Err(fault),
-        }
+        let len = self.print(&mut text)?;
+        Facet::from_text(&text[..len])
     }
 }
 
 impl fmt::Display for Facet {
-    ghost output = { λ f. Some (printed (encoded_of f)) };
+    ghost output = { λ f. Some (printed f) };
 
     fn fmt<W: fmt::Write>(&self, f: &mut fmt::Formatter<W>) -> fmt::Result {
         let mut text = [0; 255];
-        match self.print(&mut text) {
-            Ok(len) => f.write_str(unsafe { from_utf8_unchecked(&text[0..len]) }),
-            Err(_) => Err(fmt::Error),
-        }
+        let Ok(len) = self.print(&mut text) else {
+            return Err(fmt::Error);
+        };
+        f.write_str(unsafe { from_utf8_unchecked(&text[..len]) })
     }
 }

@@ -1,6 +1,5 @@
 // A column from tables that were checked, and what it holds.
 ghost use Rattle.std.specs.Prelude.{◌≡◌, ◌<◌, ◌≤◌, true, [], length, MatchOption, slice_index_or};
-ghost use Rattle.facet.specs.Facets.{encoded_of};
 ghost use Rattle.segment.specs.Columns.{sound as is_sound};
 ghost use Rattle.segment.specs.Laws.{Worked};
 ghost use Rattle.segment.specs.Held.{terms_of, rows_of, TablesOf};
@@ -96,7 +95,7 @@ impl<'a> Column<'a> {
 
     // The facet of an ordinal, none past the last.
     pub fn facet(&self, ordinal: u32) -> Option<Facet>
-        ensures { MatchOption result (length (terms_of self.now) ≤ ordinal) (λ f. (ordinal < length (terms_of self.now)) × (encoded_of f ≡ slice_index_or (terms_of self.now) ordinal [])) }
+        ensures { MatchOption result (length (terms_of self.now) ≤ ordinal) (λ f. (ordinal < length (terms_of self.now)) × (f ≡ slice_index_or (terms_of self.now) ordinal [])) }
     {
         match self.term(ordinal) {
             Some(term) => match Facet::from_encoded(term) {

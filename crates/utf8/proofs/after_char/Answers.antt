@@ -1,40 +1,34 @@
-use Rattle.std.proofs.Common.{◌≡◌, ℕ, ◌<◌, ◌≤◌, Bool, true, false, List, length, get_or, drop, Some, None, Option, ◌∙◌, arith, length-drop, Bor, MatchOption}
-use Rattle.std.proofs.lemmas.Bool.{ltb-false}
+use Rattle.std.proofs.Common.{◌≡◌, ◌-◌, ◌≤◌, ℕ, true, false, ◌&&◌, List, length, get_or, take, drop, IfSome, sym, ◌∙◌, subst, arith}
 use Rattle.std.proofs.lemmas.Bool.Decides.{nat_tests}
+use Rattle.std.proofs.lemmas.List.{take_rest}
+use Rattle.utf8.specs.declared.Row.{Row}
 use Rattle.utf8.specs.Octets.{span, within, octets, utf8}
-use Rattle.utf8.specs.Rows.{tails}
-use Rattle.utf8.proofs.Steps.{rest_is, ascii, second}
+use Rattle.utf8.specs.Rows.{lead, row_says, tails}
+use Rattle.utf8.proofs.Steps.{ascii, second}
 use Rattle.utf8.proofs.after_char.Goals as goal
-use Rattle.utf8.proofs.after_char.Goals.{then-second-row-via-then-second-row, then-second-row-via-else-second-row+then-row-second}
 
-pub returns-then-second-row : goal.returns-then-second-row
-returns-then-second-row c =
-    let xs = c.args.bytes.now in
-    let r = c.row_of-row.result in
-    let h : 2 ≤ length xs = omega (arith, ltb-false) in
-    let e = second xs r.len r.low r.high h (omega arith) (omega arith) c.row_of-row.ensures in
-    let f : within (span r.low r.high) (get_or xs 1 0) ≡ false =
-    elim c.then-second-row.branch [
-      | then-second-row-via-then-second-row w ↦ grind (arith, nat_tests)
-      | then-second-row-via-else-second-row+then-row-second w ↦ grind (arith, nat_tests)
-    ] in
-    grind arith
+-- the bytes behind the second are what the row says
+follows : (xs : List ℕ) (r : Row) → 2 ≤ length xs → lead (get_or xs 0 0) ≡ true → row_says (get_or xs 0 0) r ≡ true → within (span r.low r.high) (get_or xs 1 0) ≡ true
+    → utf8 xs ≡ octets (tails r.len) (take (length xs - 2) (drop 2 xs))
+follows xs r h l s w = second xs r h l s ∙ (λ i. w i && octets (tails r.len) (sym (take_rest xs 2) i))
 
-pub returns-in-len1-up : goal.returns-in-len1-up
-returns-in-len1-up c = simp (rest_is, length-drop) (ascii c.args.bytes.now c.requires c.if-ascii-lt128.true, omega arith)
+pub returns-then-not-contains-clause-none : goal.returns-then-not-contains-clause-none
+returns-then-not-contains-clause-none c z =
+    let row = c.in_ok-row-in-len2-up in
+    let e = second c.args.bytes.now row.row c.in-len2-up.len_at_least row.ensures.some row.ensures.row in
+    let w : within (span row.row.low row.row.high) (get_or c.args.bytes.now 1 0) ≡ false = grind (arith, nat_tests) in
+    e ∙ (λ i. w i && octets (tails row.row.len) (drop 2 c.args.bytes.now))
 
--- what is left behind the tails is left behind the character
-behind : (r : Option (Bor (List ℕ))) (t : Bool) (xs ys : List ℕ) → utf8 xs ≡ t → length ys < length xs
-    → MatchOption r (t ≡ false) (λ rest. (t ≡ utf8 rest.now) × (length rest.now ≤ length ys))
-    → MatchOption r (utf8 xs ≡ false) (λ rest. (utf8 xs ≡ utf8 rest.now) × (length rest.now < length xs))
-behind None t xs ys e l p = e ∙ p
-behind (Some rest) t xs ys e l p = (e ∙ p.0, omega (arith, p.1))
+pub returns-in-len1-up-clause-same : goal.returns-in-len1-up-clause-same
+returns-in-len1-up-clause-same c = simp take_rest (ascii c.args.bytes.now c.requires (grind (arith, nat_tests)))
 
-pub returns-else-row-second : goal.returns-else-row-second
-returns-else-row-second c =
-    let xs = c.args.bytes.now in
-    let r = c.row_of-row.result in
-    let h : 2 ≤ length xs = omega (arith, ltb-false) in
-    let e = second xs r.len r.low r.high h (omega arith) (omega arith) c.row_of-row.ensures in
-    let t : within (span r.low r.high) (get_or xs 1 0) ≡ true = grind (arith, nat_tests) in
-    behind c.after_tails.result (octets (tails r.len) (drop 2 xs)) xs (drop 2 xs) (grind arith) (simp length-drop (omega arith)) (simp rest_is at c.after_tails.ensures)
+pub returns-else-not-contains-clause-none : goal.returns-else-not-contains-clause-none
+returns-else-not-contains-clause-none c n =
+    let row = c.in_ok-row-in-len2-up in
+    follows _ row.row c.in-len2-up.len_at_least row.ensures.some row.ensures.row (grind (arith, nat_tests)) ∙ c.after_tails.ensures.none n
+
+pub returns-else-not-contains-clause-same : goal.returns-else-not-contains-clause-same
+returns-else-not-contains-clause-same c =
+    let row = c.in_ok-row-in-len2-up in
+    subst (λ t. IfSome c.after_tails.result (λ rest. t ≡ utf8 rest.now))
+    (sym (follows _ row.row c.in-len2-up.len_at_least row.ensures.some row.ensures.row (grind (arith, nat_tests)))) c.after_tails.ensures.same

@@ -1,19 +1,18 @@
-use Rattle.std.proofs.Common.{◌≡◌, ℕ, ◌+◌, ◌-◌, ◌<◌, ◌≤◌, Bool, true, List, length, get_or, subst, arith, rules}
+use Rattle.std.proofs.Common.{◌≡◌, ℕ, ◌+◌, ◌-◌, ◌<◌, ◌≤◌, true, List, Option, Some, None, IfSome, Bor, length, get_or, refl, sym, subst, arith, ltb-true}
+use Rattle.std.specs.Slice.{IsItemAt}
+use Rattle.std.specs.Option.{option_copied}
 use Rattle.utf8.specs.Rows.{row_says}
 use Rattle.utf8.specs.declared.Row.{Row}
+use Rattle.utf8.specs.declared.TheConstants.{ROWS}
 use Rattle.utf8.proofs.Table.{every, at}
 use Rattle.utf8.proofs.row_of.Goals as goal
 
-abbrev says : ℕ → Row → Bool
-says b r = row_says b r.len r.low r.high
+row_in : (o : Option (Bor Row)) (xs : List Row) (k b : ℕ) → IsItemAt xs k o → 194 ≤ b → k ≡ b - 194 → every row_says 194 xs ≡ true → IfSome (option_copied o) (λ r. row_says b r ≡ true)
+row_in None xs k b e l p t = tt
+row_in (Some x) xs k b e l p t =
+    let h : k < length xs = ltb-true k (length xs) (sym e.0) in
+    let q : 194 + k ≡ b = omega arith in
+    subst (λ (r : Row). row_says b r ≡ true) (sym e.1) (subst (λ (n : ℕ). row_says n (get_or xs k x.now) ≡ true) q (at row_says xs x.now 194 t k h))
 
-row_at : (xs : List Row) (d : Row) (b : ℕ) → 0xC2 ≤ b → b - 0xC2 < length xs → every says 0xC2 xs ≡ true → says b (get_or xs (b - 0xC2) d) ≡ true
-row_at xs d b l h t =
-    let e : 0xC2 + (b - 0xC2) ≡ b = omega arith in
-    subst (λ (n : ℕ). says n (get_or xs (b - 0xC2) d) ≡ true) e (at says xs d 0xC2 t (b - 0xC2) h)
-
-pub returns : goal.returns
-returns c =
-    let h : c.args.lead - 194 < 51 = omega arith in
-    let l : 194 ≤ c.args.lead = omega arith in
-    search (rules, row_at)
+pub returns-clause-row : goal.returns-clause-row
+returns-clause-row c = rw c.copied.ensures (row_in _ ROWS _ _ c.get.ensures.lookup c.in_ok-place.ensures.0 c.in_ok-place.ensures.1 refl)

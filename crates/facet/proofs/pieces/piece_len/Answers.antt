@@ -1,30 +1,20 @@
-use Rattle.std.proofs.Common.{◌≡◌, ℕ, ◌+◌, ◌<◌, Bool, cond, eqb, List, [], ◌∷◌, length, get_or, drop, ap, ◌∙◌, arith}
-use Rattle.std.proofs.lemmas.List.{at_drop_more, at_drop_all}
+use Rattle.std.proofs.Common.{◌≡◌, ℕ, Bool, cond, eqb, arith, List, [], ◌∷◌, length, refl, sym, ap, ◌∙◌, rules}
 use Rattle.std.proofs.lemmas.Bool.{eq-eqb, ne_eqb}
+use Rattle.std.proofs.lemmas.Iterator.{IsFirst-from_position, YieldsList-from_slice, index_from_first}
+use borrow.Author.Tests.{tests}
 use Rattle.facet.specs.Pieces.{first_piece}
 use Rattle.facet.proofs.pieces.piece_len.Goals as goal
 
--- what the byte at i says of the piece from i on
-at_piece : (s : ℕ) (xs : List ℕ) (i : ℕ) (t : Bool) → i < length xs → eqb (get_or xs i 0) s ≡ t → first_piece s (drop i xs) ≡ cond t [] (get_or xs i 0 ∷ first_piece s (drop (i + 1) xs))
-at_piece s xs i t h e = at_drop_more (first_piece s) xs i 0 h ∙ ap (λ (u : Bool). cond u [] (get_or xs i 0 ∷ first_piece s (drop (i + 1) xs))) e
-
-pub returns-then-b-separator : goal.returns-then-b-separator
-returns-then-b-separator c =
-    let s = c.args.separator in
-    let xs = c.args.bytes.now in
-    let i = c.loop-i.i in
-    let e = ap length (at_piece s xs i _ c.loop-i-test.true (eq-eqb (get_or xs i 0) s c.if-b-separator.true)) in
-    omega (arith, c.loop-i.invariant)
-
-pub loop-i-preserved : goal.loop-i-preserved
-loop-i-preserved c =
-    let s = c.args.separator in
-    let xs = c.args.bytes.now in
-    let i = c.loop-i.i in
-    let e = ap length (at_piece s xs i _ c.loop-i-test.true (ne_eqb (get_or xs i 0) s c.if-b-separator.false)) in
-    omega (arith, c.loop-i.invariant)
+-- what the test of a byte says of the piece from it on
+at_piece : (s b : ℕ) (bs : List ℕ) (t : Bool) → eqb b s ≡ t → length (first_piece s (b ∷ bs)) ≡ length (cond t [] (b ∷ first_piece s bs))
+at_piece s b bs t e = ap (λ (u : Bool). length (cond u [] (b ∷ first_piece s bs))) e
 
 pub returns : goal.returns
 returns c =
-    let e = at_drop_all (λ l. length (first_piece c.args.separator l)) c.args.bytes.now c.loop-i.i c.loop-i-test.false in
-    omega (arith, c.loop-i.invariant)
+    let s = c.args.separator in
+    let first =
+    IsFirst-from_position _ _ c.position.result (λ b. b ≡ s) (λ b. b ≡ s → ⊥) c.position.ensures.ran (YieldsList-from_slice c.args.bytes.now cc)
+    (λ x q k. search (rules, tests)) (λ x q k. search (rules, tests)) in
+    c.unwrap_or.ensures
+    ∙ sym (index_from_first (λ l. length (first_piece s l)) (λ b. b ≡ s) (λ b. b ≡ s → ⊥) refl
+    (λ b bs e. at_piece s b bs _ (eq-eqb b s e)) (λ b bs n. at_piece s b bs _ (ne_eqb b s n) ∙ omega arith) c.args.bytes.now _ first)

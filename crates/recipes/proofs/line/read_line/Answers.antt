@@ -1,10 +1,8 @@
-use Rattle.std.proofs.Common.{◌≡◌, ℕ, suc, ◌+◌, List, [], ◌∷◌, ◌++◌, map, length, get_or, drop, eqb, Ok, vec_items, sym, refl, ap, ◌∙◌, add-one, rules, tests}
+use Rattle.std.proofs.Common.{◌≡◌, ℕ, suc, ◌+◌, List, [], ◌∷◌, ◌++◌, length, get_or, drop, eqb, Ok, vec_items, sym, refl, ap, ◌∙◌, add-one, rules, tests}
 use Rattle.std.proofs.lemmas.Iterator.Consumers.{YieldsList-at, YieldsList-from_enumerate}
 use Rattle.std.proofs.lemmas.Iterator.Splits.{YieldsList-from_slice_split}
-use Rattle.std.proofs.lemmas.List.{length_push, map_push}
+use Rattle.std.proofs.lemmas.List.{length_push}
 use Rattle.std.specs.List.{slice_split}
-use Rattle.facet.specs.declared.encoded.Facet.{Facet}
-use Rattle.facet.specs.Facets.{encoded_of}
 use Rattle.facet.specs.Pieces.{split, first_piece}
 use Rattle.facet.specs.Reading.{read}
 use Rattle.recipes.specs.Lines.{first, placed, facets_from, recipe_of, named}
@@ -14,13 +12,13 @@ use Rattle.recipes.proofs.line.read_line.Given as given
 use Rattle.recipes.proofs.line.read_line.Goals as goal
 
 -- one facet more, of the field behind k others and the name
-more : (n k : ℕ) (xs ys : List Facet) (f : Facet) (fs ts : List (List ℕ)) (t : List ℕ) → fs ≡ t ∷ ts → placed n (suc k) t (read t) ≡ Ok (encoded_of f) → ys ≡ xs ++ f ∷ []
-    → ahead (map encoded_of xs) (facets_from n (suc k) fs) ≡ ahead (map encoded_of ys) (facets_from n (suc k + 1) ts)
+more : (n k : ℕ) (xs ys : List (List ℕ)) (f : List ℕ) (fs ts : List (List ℕ)) (t : List ℕ) → fs ≡ t ∷ ts → placed n (suc k) t (read t) ≡ Ok f → ys ≡ xs ++ f ∷ []
+    → ahead xs (facets_from n (suc k) fs) ≡ ahead ys (facets_from n (suc k + 1) ts)
 more n k xs ys f fs ts t e q y =
-    ap (λ (l : List (List ℕ)). ahead (map encoded_of xs) (facets_from n (suc k) l)) e
-    ∙ (λ i. ahead (map encoded_of xs) (first (q i) (facets_from n (sym (add-one (suc k)) i) ts)))
-    ∙ ahead_first (map encoded_of xs) (encoded_of f) (facets_from n (suc k + 1) ts)
-    ∙ ap (λ l. ahead l (facets_from n (suc k + 1) ts)) (sym (map_push encoded_of xs f) ∙ ap (map encoded_of) (sym y))
+    ap (λ (l : List (List ℕ)). ahead xs (facets_from n (suc k) l)) e
+    ∙ (λ i. ahead xs (first (q i) (facets_from n (sym (add-one (suc k)) i) ts)))
+    ∙ ahead_first xs f (facets_from n (suc k + 1) ts)
+    ∙ ap (λ (l : List (List ℕ)). ahead l (facets_from n (suc k + 1) ts)) (sym y)
 
 -- the name and the facets of a line
 whole : (n : ℕ) (line name : List ℕ) (ts : List (List ℕ)) (fs : List (List ℕ)) → split 9 line ≡ name ∷ ts → facets_from n 1 ts ≡ Ok fs → recipe_of n line ≡ Ok (name, fs)
@@ -39,7 +37,7 @@ loop-field-preserved c =
     c.in-Some.field c.in-Some.text c.in-Some.is in
     c.loop-field.invariant
     ∙ more c.args.number (length xs) _ _ c.in_ok-read_facet.field-0 _ _ c.in-Some.text.now p.1 (ap (λ j. placed c.args.number j c.in-Some.text.now (read c.in-Some.text.now)) (sym p.0) ∙ c.in_ok-read_facet.ensures) c.in_ok-push.ensures.items
-    ∙ ap (λ j. ahead (map encoded_of (vec_items c.push.new.self)) (facets_from c.args.number j (drop j ps))) (add-one (suc (length xs)) ∙ ap suc (sym (add-one (length xs)) ∙ sym (length_push xs _)))
+    ∙ ap (λ j. ahead (vec_items c.push.new.self) (facets_from c.args.number j (drop j ps))) (add-one (suc (length xs)) ∙ ap suc (sym (add-one (length xs)) ∙ sym (length_push xs _)))
 
 pub returns-in_err-read_facet : goal.returns-in_err-read_facet
 returns-in_err-read_facet c =
@@ -52,8 +50,8 @@ returns-in_err-read_facet c =
     (YieldsList-from_slice_split _ (λ b. eqb b 9) c.args.line.now c.split.ensures.rest c.split.ensures.done c.split.ensures.closure (λ x r q k. search (rules, tests)))) c.enumerate-fields.ensures.count)
     c.in-Some.field c.in-Some.text c.in-Some.is in
     let n = c.args.number in
-    let fs = map encoded_of (vec_items c.loop-field.facets) in
-    passes_on encoded_of _ _ (recipe_of n c.args.line.now)
+    let fs = vec_items c.loop-field.facets in
+    passes_on (λ (f : List ℕ). f) _ _ (recipe_of n c.args.line.now)
     (λ e h. ap (λ l. named (first_piece 9 c.args.line.now) (facets_from n 1 (drop 1 l))) (sym (slice_split-split 9 c.args.line.now))
     ∙ ap (named (first_piece 9 c.args.line.now)) (c.loop-field.invariant
     ∙ ap (λ l. ahead fs (facets_from n (suc (length xs)) l)) p.1
@@ -65,7 +63,7 @@ returns c =
     let ps = slice_split (λ b. eqb b 9) c.args.line.now in
     let xs = c.loop-field.yielded in
     let n = c.args.number in
-    let fs = map encoded_of (vec_items c.loop-field.facets) in
+    let fs = vec_items c.loop-field.facets in
     let p = piece_more [] _ refl _ _ c.next.ensures.steps ps
     (YieldsList-from_enumerate (YieldsList-at c.enumerate-fields.ensures.source
     (YieldsList-from_slice_split _ (λ b. eqb b 9) c.args.line.now c.split.ensures.rest c.split.ensures.done c.split.ensures.closure (λ x r q k. search (rules, tests)))) c.enumerate-fields.ensures.count)

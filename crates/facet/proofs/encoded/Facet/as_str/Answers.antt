@@ -1,7 +1,5 @@
-use Rattle.std.proofs.Common.{ap, ◌∙◌}
-use Rattle.utf8.specs.Octets.{utf8}
 use Rattle.utf8.proofs.Laws.{grammar_text}
 use Rattle.facet.proofs.encoded.Facet.as_str.Goals as goal
 
 pub from_utf8_unchecked-requires : goal.from_utf8_unchecked-requires
-from_utf8_unchecked-requires c = grammar_text _ (ap utf8 c.encoded.ensures.value ∙ c.args.self.now.text)
+from_utf8_unchecked-requires c = grammar_text _ c.encoded.ensures.text

@@ -39,9 +39,6 @@ module _ (p f xs : List ℕ) (s n : ℕ) (h : above p f ≡ true) (e : xs ≡ f)
     text : 0 < s + n → utf8 f ≡ true → utf8 (take (s + n) xs) ≡ true
     text z u = ap utf8 front_is_way ∙ utf8_way p f h (let l = length_way in omega arith) u
 
-whole : (n : ℕ) (xs : List ℕ) → take (n - 0) xs ≡ take n xs
-whole n xs = let z : n - 0 ≡ n = omega arith in ap (λ (m : ℕ). take m xs) z
-
 pub returns-then-not-is_prefix_of : goal.returns-then-not-is_prefix_of
 returns-then-not-is_prefix_of c = no_way_apart _ _ (sym c.if-not-is_prefix_of.ensures.value)
 
@@ -70,14 +67,12 @@ slice_bounds-hold-end c =
 pub hold-requires : goal.hold-requires
 hold-requires c =
     let h = ends _ _ _ _ _ (sym c.if-not-is_prefix_of.ensures.value) c.encoded-below.ensures.value c.child_offset-start.ensures c.step_end.ensures in
-    let t = text _ _ _ _ _ (sym c.if-not-is_prefix_of.ensures.value) c.encoded-below.ensures.value c.child_offset-start.ensures c.step_end.ensures (omega arith) c.args.other.now.text in
-    let n = c.child_offset-start.result + c.step_end.result in
-    let xs = c.encoded-below.result.now in
-    let l = ap length (whole n xs) ∙ length-take-le n xs h in
+    let t = text _ _ _ _ _ (sym c.if-not-is_prefix_of.ensures.value) c.encoded-below.ensures.value c.child_offset-start.ensures c.step_end.ensures (omega arith) (ap utf8 (sym c.encoded-below.ensures.value) ∙ c.encoded-below.ensures.text) in
+    let l = length-take-le _ _ h in
     let b = c.encoded-below.ensures.bound in
-    (omega arith, ap utf8 (whole n xs) ∙ t)
+    record { bound = omega arith; text = t }
 
 pub returns : goal.returns
 returns c =
-    subst (OnTheWay _ _) (sym (c.hold.ensures ∙ whole (c.child_offset-start.result + c.step_end.result) c.encoded-below.result.now))
+    subst (OnTheWay _ _) (sym c.hold.ensures)
     (leads _ _ _ _ _ (sym c.if-not-is_prefix_of.ensures.value) c.encoded-below.ensures.value c.child_offset-start.ensures c.step_end.ensures (omega arith))

@@ -1,59 +1,18 @@
-use Rattle.std.proofs.Common.{◌≡◌, ℕ, ◌+◌, ◌<◌, List, [], ◌∷◌, ◌++◌, length, get_or, take, drop, set, sym, refl, ap, ◌∙◌, arith, length-append, length-set}
-use Rattle.std.proofs.lemmas.List.{append_assoc, take_at, take_all, drop_at, drop-drop, drop-set-lt}
-use Rattle.std.specs.List.{flat_map}
-use Rattle.facet.specs.Facets.{encoded_of}
-use Rattle.facet.specs.Text.{printed, shown}
-use Rattle.facet.proofs.Texts.{printed_is, joined_more, joined_front}
+use Rattle.std.proofs.Common.{arith, subst}
+use Rattle.facet.specs.Text.{printed}
+use Rattle.facet.proofs.Bytes.{Filled, filled_more, filled_whole, length_filled}
 use Rattle.facet.proofs.encoded.Facet.print.Goals as goal
 
-first_set : (xs : List ℕ) (v : ℕ) → 0 < length xs → set xs 0 v ≡ v ∷ drop 1 (set xs 0 v)
-first_set [] v h = absurd (omega arith)
-first_set (x ∷ xs) v h = refl
+pub loop-at-preserved : goal.loop-at-preserved
+loop-at-preserved c =
+    let st = c.in-Some.ensures.steps in
+    let h = subst (Filled (printed c.args.self.now) c.args.buffer.now c.loop-at.buffer c.loop-at.at-iterator.count) st.0 c.loop-at.invariant in
+    let l = length_filled _ _ _ _ _ h in
+    rw (st.1, st.2) (filled_more _ _ _ _ _ _ (omega (arith, c.printed_len-len.ensures.value)) h)
 
--- ys is written behind xs
-grown : (xs ys all buffer after : List ℕ) (n m : ℕ) → length xs ≡ n → m ≡ n + length ys → buffer ≡ xs ++ drop n all → after ≡ take n buffer ++ (ys ++ drop m buffer) → after ≡ xs ++ (ys ++ drop m all)
-grown xs ys all buffer after n m l e b a =
-    a ∙ (λ i. take n (b i) ++ (ys ++ drop (e i) (b i)))
-    ∙ (λ i. take_at xs (drop n all) n l i ++ (ys ++ sym (drop-drop (length ys) n (xs ++ drop n all)) i))
-    ∙ (λ i. xs ++ (ys ++ drop (length ys) (drop_at xs (drop n all) n l i)))
-    ∙ (λ i. xs ++ (ys ++ (drop-drop (length ys) n all ∙ ap (λ (k : ℕ). drop k all) (sym e)) i))
-
-pub loop-b-init : goal.loop-b-init
-loop-b-init c =
-    let p = ap length (printed_is (encoded_of c.args.self.now)) in
-    (refl, first_set c.args.buffer.now 47 (omega (arith, c.printed_len.ensures.0)))
-
-pub put-at-requires : goal.put-at-requires
-put-at-requires c =
-    let xs = c.encoded-encoded.result.now in
-    let i = c.loop-b.b-index in
-    let f = encoded_of c.args.self.now in
-    let p = ap length (printed_is f) in
-    let q = ap (λ (l : List ℕ). length (flat_map shown l)) c.encoded-encoded.ensures.value in
-    let m = ap length (joined_more xs i c.loop-b-test.true) ∙ length-append (flat_map shown (take i xs)) (shown (get_or xs i 0)) in
-    let t = joined_front (i + 1) xs in
-    let k = c.loop-b.auto.buffer ∙ length-set c.args.buffer.now 0 47 in
-    omega (arith, c.loop-b.invariant.0, c.printed_len.ensures.0)
-
-pub loop-b-preserved : goal.loop-b-preserved
-loop-b-preserved c =
-    let xs = c.encoded-encoded.result.now in
-    let i = c.loop-b.b-index in
-    let e = joined_more xs i c.loop-b-test.true in
-    let m = ap length e ∙ length-append (flat_map shown (take i xs)) (shown (get_or xs i 0)) in (
-      omega (arith, c.loop-b.invariant.0, c.put-at.ensures.end),
-      grown (47 ∷ flat_map shown (take i xs)) (shown (get_or xs i 0)) (set c.args.buffer.now 0 47) c.loop-b.buffer _ c.loop-b.at c.put-at.result
-          (sym c.loop-b.invariant.0) c.put-at.ensures.end c.loop-b.invariant.1 c.put-at.ensures.written
-          ∙ ap (λ (l : List ℕ). 47 ∷ l) (sym (append_assoc (flat_map shown (take i xs)) (shown (get_or xs i 0)) _) ∙ ap (λ (l : List ℕ). l ++ drop c.put-at.result (set c.args.buffer.now 0 47)) (sym e)),
-    )
-
-pub returns : goal.returns
-returns c =
-    let f = encoded_of c.args.self.now in
-    let a = take_all c.loop-b.b-index _ c.loop-b-test.false ∙ c.encoded-encoded.ensures.value in
-    let p : (47 ∷ flat_map shown (take c.loop-b.b-index c.encoded-encoded.result.now)) ≡ printed f = ap (λ (l : List ℕ). 47 ∷ flat_map shown l) a ∙ sym (printed_is f) in
-    let n = c.loop-b.invariant.0 ∙ ap length p in (
-      n,
-      omega (arith, c.printed_len.ensures.0),
-      c.loop-b.invariant.1 ∙ (λ i. p i ++ drop-set-lt c.loop-b.at c.args.buffer.now 0 47 (omega (arith, c.loop-b.invariant.0)) i),
-    )
+pub returns-clause-written : goal.returns-clause-written
+returns-clause-written c =
+    let st = c.in-None.ensures.steps in
+    let n = c.printed_len-len.ensures.value in
+    let h = subst (Filled (printed c.args.self.now) c.args.buffer.now c.loop-at.buffer c.loop-at.at-iterator.count) st.0.0 c.loop-at.invariant in
+    (n, omega arith, filled_whole _ _ _ _ _ n h)

@@ -1,6 +1,5 @@
 use Rattle.std.proofs.Common.{refl, arith}
-use Rattle.facet.proofs.Bytes.{zero_filled}
 use Rattle.facet.proofs.encoded.Facet.root.Goals as goal
 
 pub invariant_of-result : goal.invariant_of-result
-invariant_of-result c = record { full = refl; within = omega arith; text = refl; padded = λ k h. zero_filled 127 k }
+invariant_of-result c = record { full = refl; within = omega arith; text = refl; padded = refl }

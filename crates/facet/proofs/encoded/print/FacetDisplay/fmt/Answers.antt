@@ -1,17 +1,10 @@
-use Rattle.std.proofs.Common.{ap, ◌∙◌}
-use Rattle.std.proofs.Output.{has_written_of_eq}
+use Rattle.std.proofs.Common.{take, sym, ap, ◌∙◌}
+use Rattle.std.proofs.lemmas.List.{take_at}
 use Rattle.utf8.specs.Octets.{utf8}
 use Rattle.utf8.proofs.Laws.{grammar_text}
-use Rattle.facet.specs.Facets.{encoded_of}
-use Rattle.facet.proofs.Octets.{utf8_printed, text_front}
 use Rattle.facet.proofs.encoded.print.FacetDisplay.fmt.Goals as goal
 
 pub from_utf8_unchecked-requires : goal.from_utf8_unchecked-requires
 from_utf8_unchecked-requires g c =
-    let w = c.in-Ok.ensures in
-    grammar_text _ (ap utf8 (text_front _ _ _ _ w.0 w.2) ∙ utf8_printed (encoded_of c.args.self.now) c.args.self.now.text)
-
-pub returns-in-Ok-clause-writes : goal.returns-in-Ok-clause-writes
-returns-in-Ok-clause-writes g c plain ok =
-    let w = c.in-Ok.ensures in
-    has_written_of_eq g.W.Write.write_str_gives _ _ _ _ (c.from_utf8_unchecked.ensures ∙ text_front _ _ _ _ w.0 w.2) (c.write_str.ensures.writes plain ok)
+    let w = c.in-Ok.ensures.written in
+    grammar_text _ (ap utf8 (ap (take c.in-Ok.len) w.2 ∙ take_at _ _ c.in-Ok.len (sym w.0)) ∙ c.in-Ok.ensures.text.is_utf8)
