@@ -9,7 +9,7 @@ use Rattle.std.proofs.lemmas.List.Folds.{list_any-append}
 use Rattle.std.proofs.lemmas.List.Sums.{sum_by-cons}
 use Rattle.std.proofs.lemmas.Bool.{or_cases, or_left, or_right, both_ways, cases_lt, lt-ltb, ltb-true}
 use Rattle.std.proofs.lemmas.Bool.Decides.{nat_tests}
-use Rattle.std.specs.List.{flat_map, list_any, count_by, AllByRecursion}
+use Rattle.std.specs.List.{flat_map, AllByRecursion}
 use Rattle.std.specs.Cmp.{nat_cmp_total}
 use Rattle.std.specs.Cmp.Lexicographic.{lists_total}
 use Rattle.std.specs.BTreeSet.{insert_key}
@@ -21,11 +21,6 @@ use Rattle.recipes.specs.Counting.{holds, recipes_at, count_of, Ascending, Count
 
 pub holds_append : (fs gs : List (List ℕ)) (c : List ℕ) → holds (fs ++ gs) c ≡ (holds fs c || holds gs c)
 holds_append fs gs c = list_any-append (λ f. at_or_below f c) fs gs
-
-pub count_by-map : {X Y : Type 0} (p : Y → Bool) (f : X → Y) (xs : List X) → count_by p (map f xs) ≡ count_by (λ x. p (f x)) xs
-count_by-map p f [] = refl
-count_by-map p f (x ∷ xs) =
-    sum_by-cons (λ y. cond (p y) 1 0) (f x) (map f xs) ∙ ap (λ (n : ℕ). cond (p (f x)) 1 0 + n) (count_by-map p f xs) ∙ sym (sum_by-cons (λ y. cond (p (f y)) 1 0) x xs)
 
 -- some recipe holds what all of them together hold
 pub some_hold : {X : Type 0} (f : X → List (List ℕ)) (xs : List X) (c : List ℕ) → holds (flat_map f xs) c ≡ ltb 0 (recipes_at (map f xs) c)

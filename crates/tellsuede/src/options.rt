@@ -40,6 +40,7 @@ pub enum UsageFault {
     Memory(#[from(alloc)] AllocError),
 }
 
+// The facet behind `--at`.
 fn read_branch(word: String) -> Result<Facet, UsageFault>
     ensures value { IfOk result (λ f. read (string_bytes word) ≡ Ok f) }
     ensures refused { OnErr result (IsErr (read (string_bytes word))) }
@@ -47,6 +48,7 @@ fn read_branch(word: String) -> Result<Facet, UsageFault>
     Facet::from_text(word.as_bytes()).map_err(|fault| UsageFault::Facet(word, Refusal(fault)))
 }
 
+// The number behind `--min`.
 fn read_minimum(word: String) -> Result<u64, UsageFault>
     ensures { ParsesUnsigned 64 10 (string_bytes word) result }
 {

@@ -6,10 +6,10 @@ use Rattle.recipes.proofs.count.children.Goals as goal
 use Rattle.recipes.proofs.count.children.Goals.{in-Some+in_ok-insert, in_default}
 
 -- the facets up to i, with that at i
-seen_more : (seen xs : List (List ℕ)) (i : ℕ) (x : List ℕ) → i < length xs → x ≡ get_or xs i x → (seen ++ take i xs) ++ x ∷ [] ≡ seen ++ take (i + 1) xs
-seen_more seen xs i x h e =
-    append_assoc seen (take i xs) (x ∷ [])
-    ∙ ap (λ (l : List (List ℕ)). seen ++ l) (ap (λ y. take i xs ++ y ∷ []) e ∙ sym (take_more xs i x h))
+seen_more : (seen fs : List (List ℕ)) (i : ℕ) (f : List ℕ) → i < length fs → f ≡ get_or fs i f → (seen ++ take i fs) ++ f ∷ [] ≡ seen ++ take (i + 1) fs
+seen_more seen fs i f h e =
+    append_assoc seen (take i fs) (f ∷ [])
+    ∙ ap (λ (l : List (List ℕ)). seen ++ l) (ap (λ (g : List ℕ). take i fs ++ g ∷ []) e ∙ sym (take_more fs i f h))
 
 pub loop-facet-preserved : goal.loop-facet-preserved
 loop-facet-preserved c =

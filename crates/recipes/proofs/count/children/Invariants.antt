@@ -9,4 +9,4 @@ invariant-loop-recipe l = Children l.branch (flat_map held_by (take l.recipe-ind
 
 abbrev pub invariant-loop-facet : goal.invariant-loop-facet
 invariant-loop-facet l =
-    Children l.branch (flat_map held_by (take l.recipe-index l.recipes) ++ (take l.facet-index l.facet-items)) l.children.keys
+    Children l.branch (flat_map held_by (take l.recipe-index l.recipes) ++ take l.facet-index l.facet-items) l.children.keys

@@ -3,7 +3,6 @@ use Rattle.std.proofs.lemmas.Iterator.Consumers.{YieldsList-at, YieldsList-from_
 use Rattle.std.proofs.lemmas.Iterator.Splits.{YieldsList-from_slice_split}
 use Rattle.std.proofs.lemmas.List.{length_push}
 use Rattle.std.specs.List.{slice_split}
-use Rattle.facet.specs.declared.encoded.Facet.{Facet}
 use Rattle.facet.specs.Pieces.{split, first_piece}
 use Rattle.facet.specs.Reading.{read}
 use Rattle.recipes.specs.Lines.{first, placed, facets_from, recipe_of, named}
@@ -13,13 +12,13 @@ use Rattle.recipes.proofs.line.read_line.Given as given
 use Rattle.recipes.proofs.line.read_line.Goals as goal
 
 -- one facet more, of the field behind k others and the name
-more : (n k : ℕ) (xs ys : List Facet) (f : Facet) (fs ts : List (List ℕ)) (t : List ℕ) → fs ≡ t ∷ ts → placed n (suc k) t (read t) ≡ Ok f → ys ≡ xs ++ f ∷ []
+more : (n k : ℕ) (xs ys : List (List ℕ)) (f : List ℕ) (fs ts : List (List ℕ)) (t : List ℕ) → fs ≡ t ∷ ts → placed n (suc k) t (read t) ≡ Ok f → ys ≡ xs ++ f ∷ []
     → ahead xs (facets_from n (suc k) fs) ≡ ahead ys (facets_from n (suc k + 1) ts)
 more n k xs ys f fs ts t e q y =
     ap (λ (l : List (List ℕ)). ahead xs (facets_from n (suc k) l)) e
     ∙ (λ i. ahead xs (first (q i) (facets_from n (sym (add-one (suc k)) i) ts)))
     ∙ ahead_first xs f (facets_from n (suc k + 1) ts)
-    ∙ ap (λ l. ahead l (facets_from n (suc k + 1) ts)) (sym y)
+    ∙ ap (λ (l : List (List ℕ)). ahead l (facets_from n (suc k + 1) ts)) (sym y)
 
 -- the name and the facets of a line
 whole : (n : ℕ) (line name : List ℕ) (ts : List (List ℕ)) (fs : List (List ℕ)) → split 9 line ≡ name ∷ ts → facets_from n 1 ts ≡ Ok fs → recipe_of n line ≡ Ok (name, fs)
@@ -52,7 +51,7 @@ returns-in_err-read_facet c =
     c.in-Some.field c.in-Some.text c.in-Some.is in
     let n = c.args.number in
     let fs = vec_items c.loop-field.facets in
-    passes_on (λ f. f) _ _ (recipe_of n c.args.line.now)
+    passes_on (λ (f : List ℕ). f) _ _ (recipe_of n c.args.line.now)
     (λ e h. ap (λ l. named (first_piece 9 c.args.line.now) (facets_from n 1 (drop 1 l))) (sym (slice_split-split 9 c.args.line.now))
     ∙ ap (named (first_piece 9 c.args.line.now)) (c.loop-field.invariant
     ∙ ap (λ l. ahead fs (facets_from n (suc (length xs)) l)) p.1
