@@ -1,6 +1,5 @@
 -- Reading, printing and cutting keep UTF-8. Assumes nothing.
-use Rattle.std.proofs.Common.{◌≡◌, ℕ, ◌-◌, ◌<◌, ◌≤◌, Bool, true, false, cond, ◌||◌, eqb, List, [], ◌∷◌, ◌++◌, length, take, drop, Ok, Err, sym, refl, ap, ◌∙◌, subst, ⊎_elim, arith}
-use Rattle.std.proofs.lemmas.List.{take_at}
+use Rattle.std.proofs.Common.{◌≡◌, ℕ, ◌<◌, ◌≤◌, Bool, true, false, cond, ◌||◌, eqb, List, [], ◌∷◌, ◌++◌, length, Ok, Err, sym, refl, ap, ◌∙◌, subst, ⊎_elim, arith}
 use Rattle.std.proofs.lemmas.Bool.{eqb-true, or_cases, cases_lt, le-ltb}
 use Rattle.std.specs.List.{flat_map}
 use Rattle.utf8.specs.Octets.{Span, octets, utf8}
@@ -81,12 +80,6 @@ utf8_way p f h z u =
     (at_or_below_rest f (way p f) z (on_the_way p f h z).leads)
 
 -- ---- reading back
-
--- what stands at the front of a buffer that a text was written into
-pub text_front : (text buffer after : List ℕ) (n : ℕ) → n ≡ length text → after ≡ text ++ drop n buffer → take (n - 0) after ≡ text
-text_front text buffer after n e w =
-    let z : n - 0 ≡ n = omega arith in
-    (λ i. take (z i) (w i)) ∙ take_at text (drop n buffer) n (sym e)
 
 length_printed : (f : List ℕ) → length f ≤ 127 → length (printed f) ≤ 255
 length_printed f l = let h = length_joined f in let e = ap length (printed_is f) in omega arith

@@ -1,7 +1,6 @@
 -- The text of a facet, byte by byte. Assumes nothing.
-use Rattle.std.proofs.Common.{◌≡◌, ℕ, ◌+◌, ◌*◌, ◌<◌, ◌≤◌, Bool, true, false, cond, ◌||◌, eqb, List, [], ◌∷◌, ◌++◌, length, get_or, take, drop, sym, refl, ap, ◌∙◌, append_assoc, arith, length-append}
-use Rattle.std.proofs.lemmas.List.{take_more, take-append-drop, flat_map_more as joined_one}
-use Rattle.std.proofs.lemmas.Bool.{eqb-true, eq-eqb, ne_eqb}
+use Rattle.std.proofs.Common.{◌≡◌, ℕ, ◌*◌, ◌<◌, ◌≤◌, Bool, true, false, cond, ◌||◌, eqb, List, [], ◌∷◌, ◌++◌, length, sym, refl, ap, ◌∙◌, arith, length-append}
+use Rattle.std.proofs.lemmas.Bool.{eqb-true}
 use Rattle.std.specs.List.{flat_map}
 use Rattle.facet.specs.Pieces.{grow, split}
 use Rattle.facet.specs.Text.{unescaped, escaped, printed, shown}
@@ -64,42 +63,3 @@ length_shown b = cut (eqb b 0) (eqb b 47 || eqb b 92)
 pub length_joined : (f : List ℕ) → length (flat_map shown f) ≤ 2 * length f
 length_joined [] = omega arith
 length_joined (b ∷ f) = let h = length_joined f in let s = length_shown b in let a = length-append (shown b) (flat_map shown f) in omega arith
-
--- ---- reading, by places
-
-pub read_escaped : (xs : List ℕ) → 2 ≤ length xs → get_or xs 0 0 ≡ 92 → unescaped false xs ≡ get_or xs 1 0 ∷ unescaped false (drop 2 xs)
-read_escaped [] h e = absurd (omega arith)
-read_escaped (b ∷ []) h e = absurd (omega arith)
-read_escaped (b ∷ c ∷ xs) h e = ap (λ (t : Bool). cond t (c ∷ unescaped false xs) (cond (eqb b 47) 0 b ∷ unescaped false (c ∷ xs))) (eq-eqb b 92 e)
-
-pub read_slash : (xs : List ℕ) → 1 ≤ length xs → get_or xs 0 0 ≡ 47 → unescaped false xs ≡ 0 ∷ unescaped false (drop 1 xs)
-read_slash [] h e = absurd (omega arith)
-read_slash (b ∷ xs) h e = (λ i. cond (ne_eqb b 92 (λ g. omega arith) i) (unescaped true xs) (cond (eq-eqb b 47 e i) 0 b ∷ unescaped false xs))
-
-pub read_plain : (xs : List ℕ) → 1 ≤ length xs → (get_or xs 0 0 ≡ 92 → ⊥) → (get_or xs 0 0 ≡ 47 → ⊥) → unescaped false xs ≡ get_or xs 0 0 ∷ unescaped false (drop 1 xs)
-read_plain [] h n m = absurd (omega arith)
-read_plain (b ∷ xs) h n m = (λ i. cond (ne_eqb b 92 n i) (unescaped true xs) (cond (ne_eqb b 47 m i) 0 b ∷ unescaped false xs))
-
--- ---- printing, by places
-
-pub shown_separator : (b : ℕ) → b ≡ 0 → shown b ≡ 47 ∷ []
-shown_separator b e = ap (λ (t : Bool). cond t (47 ∷ []) (cond (eqb b 47 || eqb b 92) (92 ∷ b ∷ []) (b ∷ []))) (eq-eqb b 0 e)
-
--- behind the test for the separator
-pub shown_step : (b : ℕ) (t : Bool) → (b ≡ 0 → ⊥) → t ≡ (eqb b 47 || eqb b 92) → shown b ≡ cond t (92 ∷ b ∷ []) (b ∷ [])
-shown_step b t n e = λ i. cond (ne_eqb b 0 n i) (47 ∷ []) (cond (sym e i) (92 ∷ b ∷ []) (b ∷ []))
-
-joined_append : (f g : List ℕ) → flat_map shown (f ++ g) ≡ flat_map shown f ++ flat_map shown g
-joined_append [] g = refl
-joined_append (b ∷ f) g = ap (λ (l : List ℕ). shown b ++ l) (joined_append f g) ∙ sym (append_assoc (shown b) (flat_map shown f) (flat_map shown g))
-
--- the text of a front is no longer
-pub joined_front : (i : ℕ) (f : List ℕ) → length (flat_map shown (take i f)) ≤ length (flat_map shown f)
-joined_front i f =
-    let e = ap (λ (l : List ℕ). length (flat_map shown l)) (sym (take-append-drop i f)) ∙ ap length (joined_append (take i f) (drop i f)) ∙ length-append (flat_map shown (take i f)) (flat_map shown (drop i f)) in
-    omega arith
-
--- one byte more
-pub joined_more : (xs : List ℕ) (i : ℕ) → i < length xs → flat_map shown (take (i + 1) xs) ≡ flat_map shown (take i xs) ++ shown (get_or xs i 0)
-joined_more xs i h =
-    ap (flat_map shown) (take_more xs i 0 h) ∙ sym (joined_one shown [] (take i xs) (get_or xs i 0))

@@ -1,17 +1,12 @@
 -- The requested facet above a term, sought by a cursor, and where its child ends. Assumes nothing.
 use Rattle.std.proofs.Common.{◌≡◌, ℕ, ◌+◌, ◌-◌, ◌<◌, ◌≤◌, true, false, List, [], length, get_or, take, drop, Some, Ordering, Less, Equal, Greater, sym, refl, ap, ◌∙◌, subst, arith, length-drop, length-take}
 use Rattle.facet.proofs.Paths.{way_front, length_piece}
-use Rattle.facet.specs.Facets.{encoded_of}
 use Rattle.facet.specs.Paths.{above, child_offset, depth, first_step}
-use Rattle.facet.specs.declared.encoded.Facet.{Facet}
-use Rattle.std.proofs.lemmas.List.{get_or-map, length-take-le, take_rest}
+use Rattle.std.proofs.lemmas.List.{length-take-le, take_rest}
 use Rattle.std.specs.Ordering.{is_gt}
 use Rattle.facet_collector.specs.Children.{requestable, towards, leads}
-use Rattle.facet_collector.specs.Requests.{encodings, Sought, Ends}
+use Rattle.facet_collector.specs.Requests.{Sought, Ends}
 use Rattle.facet_collector.proofs.Cursor.{cursor_none, request_found}
-
-pub encoding_at : (fs : List Facet) (k : ℕ) (f : Facet) → k < length fs → f ≡ get_or fs k f → get_or (encodings fs) k [] ≡ encoded_of f
-encoding_at fs k f l e = get_or-map encoded_of fs k f [] l ∙ ap encoded_of (sym e)
 
 pub gt_not : (o : Ordering) → false ≡ is_gt o → o ≡ Greater → ⊥
 gt_not o h e = let z : ◌≡◌ {A = ℕ} 0 1 = cc in omega arith

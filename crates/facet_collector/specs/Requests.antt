@@ -1,13 +1,8 @@
 -- Requested facets by their encodings, and a cursor among them. Assumes nothing.
-use Rattle.std.specs.Prelude.{◌≡◌, ℕ, ◌<◌, ◌≤◌, List, [], map, length, take, Some, None, Option, ◌≢◌, slice_index, slice_index_or}
+use Rattle.std.specs.Prelude.{◌≡◌, ℕ, ◌<◌, ◌≤◌, List, [], length, take, Some, None, Option, ◌≢◌, slice_index, slice_index_or}
 use Rattle.std.specs.declared.cmp.Ordering.TheVariants.{Greater}
-use Rattle.facet.specs.Facets.{encoded_of}
 use Rattle.facet.specs.Paths.{depth, order}
-use Rattle.facet.specs.declared.encoded.Facet.{Facet}
 use Rattle.facet_collector.specs.Children.{request_of, leads, children, collapsed, first_below, last_of, slot_of}
-
-abbrev pub encodings : List Facet → List (List ℕ)
-encodings fs = map encoded_of fs
 
 -- the first `at` of them do not stand behind the term, and the next does
 pub record Sought (rs : List (List ℕ)) (t : List ℕ) (at : ℕ) : Type 0 where

@@ -1,13 +1,12 @@
 // The collapse mapping: which child of a requested facet each term of a column leads to.
 ghost use Rattle.std.specs.Prelude.{◌≡◌, ℕ, ◌+◌, ◌<◌, ◌≤◌, true, [], length, MatchResult, ◌≢◌, slice_index, slice_index_or};
 ghost use Rattle.std.specs.declared.cmp.Ordering.TheVariants.{Greater};
-ghost use Rattle.facet.specs.Facets.{encoded_of};
 ghost use Rattle.facet.specs.Paths.{order};
 ghost use Rattle.std.specs.Ordering.{is_gt};
 ghost use Rattle.segment.specs.Held.{terms_of};
 ghost use Rattle.collector.specs.declared.fault.OpeningFault.TheVariants.{TooManyChildren as too_many};
 ghost use Rattle.facet_collector.specs.Children.{requestable, children as children_of, nothing};
-ghost use Rattle.facet_collector.specs.Requests.{encodings, Sought, Ends, Walked, Told, Mapping};
+ghost use Rattle.facet_collector.specs.Requests.{Sought, Ends, Walked, Told, Mapping};
 
 use collector::OpeningFault;
 use facet::{Facet, is_above, step_end};
@@ -24,7 +23,7 @@ pub const NO_SLOT: u8 = 255;
 
 // Whether the facet stands behind the term.
 fn is_behind(facet: &Facet, term: &[u8]) -> bool
-    ensures { result ≡ is_gt (order (encoded_of facet.now) term.now) }
+    ensures { result ≡ is_gt (order facet.now term.now) }
 {
     facet.encoded().cmp(term).is_gt()
 }
@@ -32,8 +31,8 @@ fn is_behind(facet: &Facet, term: &[u8]) -> bool
 // The first requested facet that stands behind the term, where those before `from` do not.
 fn seek(requests: &[Facet], from: usize, term: &[u8]) -> usize
     requires within { from ≤ length requests.now }
-    requires passed { (k : ℕ) → k < from → order (slice_index_or (encodings requests.now) k []) term.now ≢ Greater }
-    ensures { Sought (encodings requests.now) term.now result }
+    requires passed { (k : ℕ) → k < from → order (slice_index_or requests.now k []) term.now ≢ Greater }
+    ensures { Sought requests.now term.now result }
 {
     let mut at = from;
     while at < requests.len() && !is_behind(&requests[at], term) {
@@ -44,10 +43,10 @@ fn seek(requests: &[Facet], from: usize, term: &[u8]) -> usize
 
 // Where in the term the child ends that it leads to, and the depth of the requested facet; 0 where it leads to none.
 fn child_end(requests: &[Facet], at: usize, term: &[u8]) -> (usize, u8)
-    requires ok { requestable (encodings requests.now) ≡ true }
-    requires sought { Sought (encodings requests.now) term.now at }
+    requires ok { requestable requests.now ≡ true }
+    requires sought { Sought requests.now term.now at }
     requires short { length term.now ≤ 127 }
-    ensures { Ends (encodings requests.now) term.now result.0 result.1 }
+    ensures { Ends requests.now term.now result.0 result.1 }
 {
     if at == 0 {
         return (0, 0);
@@ -81,10 +80,10 @@ impl<'a> Walk<'a> {
         ordinal: u32,
         term: &'a [u8],
     ) -> Result<Option<(u32, u8, u8)>, OpeningFault>
-        requires ok { requestable (encodings requests.now) ≡ true }
-        requires walked { Walked (encodings requests.now) (terms_of terms.now) ordinal self.old.at self.old.children self.old.child.now self.old.first }
+        requires ok { requestable requests.now ≡ true }
+        requires walked { Walked requests.now (terms_of terms.now) ordinal self.old.at self.old.children self.old.child.now self.old.first }
         requires next { (ordinal < length (terms_of terms.now)) × (term.now ≡ slice_index_or (terms_of terms.now) ordinal []) }
-        ensures { MatchResult result (λ o. Told (encodings requests.now) (terms_of terms.now) ordinal o × Walked (encodings requests.now) (terms_of terms.now) (ordinal + 1) self.new.at self.new.children self.new.child.now self.new.first) (λ e. (e ≡ too_many) × (128 < length (children_of (encodings requests.now) (terms_of terms.now)))) }
+        ensures { MatchResult result (λ o. Told requests.now (terms_of terms.now) ordinal o × Walked requests.now (terms_of terms.now) (ordinal + 1) self.new.at self.new.children self.new.child.now self.new.first) (λ e. (e ≡ too_many) × (128 < length (children_of requests.now (terms_of terms.now)))) }
     {
         self.at = seek(requests, self.at, term);
         let (end, depth) = child_end(requests, self.at, term);
@@ -113,10 +112,10 @@ pub(crate) fn collapse(
     mapping: &mut [(u32, u8); MOST_TERMS],
     slots: &mut [u8; MOST_TERMS],
 ) -> Result<(), OpeningFault>
-    requires ok { requestable (encodings requests.now) ≡ true }
+    requires ok { requestable requests.now ≡ true }
     requires mapping_blank { (o : ℕ) → o < 4096 → slice_index_or mapping.old o (0, 0) ≡ nothing }
     requires slots_blank { (o : ℕ) → o < 4096 → slice_index slots.old o ≡ 255 }
-    ensures { MatchResult result (λ _. Mapping (encodings requests.now) (terms_of column.now) mapping.new slots.new) (λ e. (e ≡ too_many) × (128 < length (children_of (encodings requests.now) (terms_of column.now)))) }
+    ensures { MatchResult result (λ _. Mapping requests.now (terms_of column.now) mapping.new slots.new) (λ e. (e ≡ too_many) × (128 < length (children_of requests.now (terms_of column.now)))) }
 {
     let mut walk = Walk {
         at: 0,

@@ -125,6 +125,7 @@ pub fn is_utf8(bytes: &[u8]) -> bool
     ensures grammar { result ≡ utf8 bytes.now }
     ensures text { Decides result (IsUtf8 bytes.now) }
 {
+    // a loop: an iterator of characters would be no plainer
     let mut left = bytes;
     while !left.is_empty() {
         let Some(rest) = after_char(left) else {

@@ -39,6 +39,7 @@ fn unescape(text: &[u8]) -> Result<Facet, FacetFault>
     requires { utf8 text.now ≡ true }
     ensures { result ≡ limited (unescaped false text.now) }
 {
+    // by place into an array: a facet is Copy, and nothing is on the heap
     let mut bytes = [0; 127];
     let mut len: u8 = 0;
     for b in (Unescaped { left: text }) {

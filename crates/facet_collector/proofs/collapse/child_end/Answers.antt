@@ -1,9 +1,7 @@
 use Rattle.std.proofs.Common.{◌≡◌, ◌-◌, ◌<◌, ◌≤◌, true, [], length, get_or, sym, ap, ◌∙◌, arith, rules}
 use Rattle.facet.specs.Paths.{above}
-use Rattle.std.proofs.lemmas.List.{length-map}
-use Rattle.facet.specs.Facets.{encoded_of}
-use Rattle.facet_collector.specs.Requests.{encodings}
-use Rattle.facet_collector.proofs.Seeks.{encoding_at, ends_none, starts_within, ends_within, ends_some}
+use Rattle.std.proofs.lemmas.List.{get_or_read}
+use Rattle.facet_collector.proofs.Seeks.{ends_none, starts_within, ends_within, ends_some}
 use Rattle.facet_collector.proofs.collapse.child_end.Goals as goal
 use Rattle.facet_collector.proofs.collapse.child_end.Goals.{After-child_offset-start}
 
@@ -11,26 +9,26 @@ pub returns-then-at-eq0 : goal.returns-then-at-eq0
 returns-then-at-eq0 c = ends_none _ _ c.args.at c.requires.ok c.requires.sought (λ z. absurd (omega (arith, c.if-at-eq0.true)))
 
 pub bounds-requests-at : goal.bounds-requests-at
-bounds-requests-at c = let l = length-map c.args.requests.now encoded_of in let w = c.requires.sought.within in omega arith
+bounds-requests-at c = let w = c.requires.sought.within in omega arith
 
 pub offset_bounds-requests-at : goal.offset_bounds-requests-at
 offset_bounds-requests-at c = let l : c.args.at - 1 < length c.args.requests.now = bounds-requests-at c in search rules
 
 pub returns-then-not-is_above : goal.returns-then-not-is_above
 returns-then-not-is_above c =
-    let is = encoding_at c.args.requests.now (c.args.at - 1) c.index-requests-at.result (let l = length-map c.args.requests.now encoded_of in let w = c.requires.sought.within in omega arith) c.index-requests-at.is in
+    let is = sym (get_or_read c.args.requests.now (c.args.at - 1) c.index-requests-at.result (let w = c.requires.sought.within in omega arith) c.index-requests-at.is []) in
     ends_none _ _ c.args.at c.requires.ok c.requires.sought (λ _. ap (λ f. above f c.args.term.now) (is ∙ sym c.encoded.ensures.value) ∙ sym c.if-not-is_above.ensures)
 
 -- the request is above the term
 module _ (c : goal.After-child_offset-start) where
-  found : above (encoded_of c.index-requests-at.result) c.args.term.now ≡ true
+  found : above c.index-requests-at.result c.args.term.now ≡ true
   found = ap (λ f. above f c.args.term.now) (sym c.encoded.ensures.value) ∙ sym c.if-not-is_above.ensures
 
-  there : c.args.at - 1 < length (encodings c.args.requests.now)
-  there = let l = length-map c.args.requests.now encoded_of in let w = c.requires.sought.within in omega arith
+  there : c.args.at - 1 < length c.args.requests.now
+  there = let w = c.requires.sought.within in omega arith
 
-  is : get_or (encodings c.args.requests.now) (c.args.at - 1) [] ≡ encoded_of c.index-requests-at.result
-  is = encoding_at c.args.requests.now (c.args.at - 1) c.index-requests-at.result (let l = length-map c.args.requests.now encoded_of in let w = there in omega arith) c.index-requests-at.is
+  is : get_or c.args.requests.now (c.args.at - 1) [] ≡ c.index-requests-at.result
+  is = sym (get_or_read c.args.requests.now (c.args.at - 1) c.index-requests-at.result there c.index-requests-at.is [])
 
   within : c.child_offset-start.result ≤ length c.args.term.now
   within = starts_within _ _ _ _ c.requires.ok there is found _ c.child_offset-start.ensures

@@ -1,7 +1,7 @@
 use Rattle.std.proofs.Common.{◌<◌, subst, arith, rules}
 use Rattle.segment.proofs.Ordinals.{terms_few}
 use Rattle.segment.specs.Held.{terms_of}
-use Rattle.facet_collector.specs.Requests.{encodings, Told}
+use Rattle.facet_collector.specs.Requests.{Told}
 use Rattle.facet_collector.proofs.Steps.{fill_none, fill_some, mapping_filled}
 use Rattle.facet_collector.proofs.collapse.collapse.Goals as goal
 use Rattle.facet_collector.proofs.collapse.collapse.Goals.{In-Some, in-Some-2, in_default-2}
@@ -37,10 +37,10 @@ loop-term-preserved c =
       walked',
       elim c.match-branch-2.branch [
         | in-Some-2 w ↦
-            let (maps, slot) = subst (Told (encodings c.args.requests.now) (terms_of c.args.column.now) c.loop-term.ordinal) w.in-Some-2.is told in
+            let (maps, slot) = subst (Told c.args.requests.now (terms_of c.args.column.now) c.loop-term.ordinal) w.in-Some-2.is told in
             rw (w.mapping-is, w.slots-is) (fill_some _ _ _ l small _ _ filled _ _ maps slot)
         | in_default-2 w ↦
-            let none = subst (Told (encodings c.args.requests.now) (terms_of c.args.column.now) c.loop-term.ordinal) w.in_default-2.is told in
+            let none = subst (Told c.args.requests.now (terms_of c.args.column.now) c.loop-term.ordinal) w.in_default-2.is told in
             rw (w.mapping-is, w.slots-is) (fill_none _ _ _ l small _ _ filled none)
       ],
     )

@@ -4,7 +4,7 @@ use Rattle.utf8.specs.Octets.{utf8}
 use Rattle.facet.specs.Laws.{OnTheWay, NoWay}
 use Rattle.facet.specs.Paths.{first_step, above, child_offset}
 use Rattle.facet.proofs.Octets.{utf8_way}
-use Rattle.facet.proofs.Paths.{way, way_front, length_piece, no_way_apart, no_way_empty, on_the_way}
+use Rattle.facet.proofs.Paths.{way, way_front, length_piece, no_way_empty, on_the_way}
 use Rattle.facet.proofs.encoded.Facet.child_toward.Goals as goal
 
 -- p above f, with the slice xs of f, the child's offset s in it and the length n of its step
@@ -39,9 +39,6 @@ module _ (p f xs : List ℕ) (s n : ℕ) (h : above p f ≡ true) (e : xs ≡ f)
     text : 0 < s + n → utf8 f ≡ true → utf8 (take (s + n) xs) ≡ true
     text z u = ap utf8 front_is_way ∙ utf8_way p f h (let l = length_way in omega arith) u
 
-pub returns-then-not-is_prefix_of : goal.returns-then-not-is_prefix_of
-returns-then-not-is_prefix_of c = no_way_apart _ _ (sym c.if-not-is_prefix_of.ensures.value)
-
 pub slice_bounds-step_end-count : goal.slice_bounds-step_end-count
 slice_bounds-step_end-count c = starts _ _ _ _ 0 (sym c.if-not-is_prefix_of.ensures.value) c.encoded-below.ensures.value c.child_offset-start.ensures
 
@@ -64,13 +61,10 @@ slice_bounds-hold-end c =
     let h = ends _ _ _ _ _ (sym c.if-not-is_prefix_of.ensures.value) c.encoded-below.ensures.value c.child_offset-start.ensures c.step_end.ensures in
     search rules
 
-pub hold-requires : goal.hold-requires
-hold-requires c =
-    let h = ends _ _ _ _ _ (sym c.if-not-is_prefix_of.ensures.value) c.encoded-below.ensures.value c.child_offset-start.ensures c.step_end.ensures in
-    let t = text _ _ _ _ _ (sym c.if-not-is_prefix_of.ensures.value) c.encoded-below.ensures.value c.child_offset-start.ensures c.step_end.ensures (omega arith) (ap utf8 (sym c.encoded-below.ensures.value) ∙ c.encoded-below.ensures.text) in
-    let l = length-take-le _ _ h in
-    let b = c.encoded-below.ensures.bound in
-    record { bound = omega arith; text = t }
+pub hold-requires-clause-text : goal.hold-requires-clause-text
+hold-requires-clause-text c =
+    text _ _ _ _ _ (sym c.if-not-is_prefix_of.ensures.value) c.encoded-below.ensures.value c.child_offset-start.ensures c.step_end.ensures (omega arith)
+    (ap utf8 (sym c.encoded-below.ensures.value) ∙ c.encoded-below.ensures.text)
 
 pub returns : goal.returns
 returns c =

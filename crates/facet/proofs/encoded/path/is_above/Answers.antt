@@ -1,15 +1,12 @@
 use Rattle.std.proofs.Common.{false, sym, refl, ◌∙◌}
 use Rattle.std.proofs.lemmas.Slice.Eq.{starts_is}
-use Rattle.std.proofs.lemmas.Bool.{eqb-true, eqb-false, both_ways}
-use Rattle.facet.proofs.Paths.{not_above_shorter, root_above, above_begun, not_above_other}
+use Rattle.std.proofs.lemmas.Bool.{eqb-false, both_ways}
+use Rattle.facet.proofs.Paths.{not_above_shorter, above_begun, not_above_other}
 use Rattle.facet.proofs.encoded.path.is_above.Goals as goal
 use Rattle.std.proofs.lemmas.Bool.Decides.{Decides-eqb}
 
 pub returns-then-below-encoded : goal.returns-then-below-encoded
 returns-then-below-encoded c = sym (not_above_shorter _ _ c.if-below-encoded.true)
-
-pub returns-then-is_empty : goal.returns-then-is_empty
-returns-then-is_empty c = sym (root_above _ _ (eqb-true _ 0 (sym c.if-is_empty.ensures)) c.if-below-encoded.false)
 
 pub returns-then-starts_with : goal.returns-then-starts_with
 returns-then-starts_with c =

@@ -1,12 +1,10 @@
 use Rattle.std.proofs.Common.{◌≡◌, ℕ, ◌+◌, ◌-◌, ◌≤◌, true, false, List, [], length, get_or, take, Greater, sym, refl, ap, ◌∙◌, subst, arith, rules}
-use Rattle.facet.specs.Facets.{encoded_of}
 use Rattle.facet.specs.Paths.{order}
 use Rattle.segment.proofs.Ordinals.{terms_ascend, terms_short}
 use Rattle.segment.specs.Held.{terms_of}
 use Rattle.std.proofs.lemmas.Slice.Eq.{slice_eq-Decides}
-use Rattle.std.proofs.lemmas.List.{length-map}
 use Rattle.std.proofs.lemmas.Bool.{both_ways}
-use Rattle.facet_collector.specs.Requests.{encodings, Walked}
+use Rattle.facet_collector.specs.Requests.{Walked}
 use Rattle.facet_collector.proofs.Seeks.{ends_short}
 use Rattle.facet_collector.proofs.Walks.{step_none, step_same, step_new, step_many, some_children}
 use Rattle.facet_collector.proofs.collapse.Walk.step.Goals as goal
@@ -16,10 +14,9 @@ use Rattle.std.proofs.lemmas.Bool.Decides.{Decides-eqb}
 pub seek-self-requires : goal.seek-self-requires
 seek-self-requires c =
     let w = c.requires.walked in
-    let l = length-map c.args.requests.now encoded_of in
     record {
       within = omega (arith, w.cursor);
-      passed = λ k h g. w.sought k c.args.ordinal h (omega arith) c.requires.next.0 (subst (λ (t : List ℕ). order (get_or (encodings c.args.requests.now) k []) t ≡ Greater) c.requires.next.1 g);
+      passed = λ k h g. w.sought k c.args.ordinal h (omega arith) c.requires.next.0 (subst (λ (t : List ℕ). order (get_or c.args.requests.now k []) t ≡ Greater) c.requires.next.1 g);
     }
 
 pub child_end-end-requires : goal.child_end-end-requires
@@ -59,4 +56,4 @@ pub returns : goal.returns
 returns c =
     let b = (goal.at.returns c).After-eq in
     let (told, walked) = step_new _ _ c.requires.ok (terms_ascend c.args.terms.now) _ c.requires.next.0 _ _ _ _ c.requires.walked _ c.requires.next.1 _ c.seek-self.ensures _ _ c.child_end-end.ensures c.if-end-eq0.false (differ b c.if-eq.false) (let f = c.requires.walked.few in omega (arith, c.if-slot-eq-MOST_CHILDREN.false)) in
-    (told, subst (λ (x : List ℕ). Walked (encodings c.args.requests.now) (terms_of c.args.terms.now) (c.args.ordinal + 1) c.seek-self.result (c.args.self.now.children + 1) x c.args.ordinal) (whole b) walked)
+    (told, subst (λ (x : List ℕ). Walked c.args.requests.now (terms_of c.args.terms.now) (c.args.ordinal + 1) c.seek-self.result (c.args.self.now.children + 1) x c.args.ordinal) (whole b) walked)
