@@ -1,6 +1,6 @@
 // How many recipes stand at or below each child of a branch.
 ghost use Rattle.std.specs.Prelude.{◌≡◌, map, IfOk};
-ghost use Rattle.recipes.specs.Counting.{holds as holds_at, recipes_at, Counted, all_reach, Children};
+ghost use Rattle.recipes.specs.Counting.{recipes_at, Counted, all_reach, Children};
 ghost use Rattle.recipes.specs.Recipes.{held_by, entry_of};
 ghost use Rattle.std.specs.List.{flat_map};
 
@@ -13,15 +13,6 @@ use std::collections::BTreeSet;
 pub struct Entry {
     pub facet: Facet,
     pub count: u64,
-}
-
-impl Recipe {
-    // Whether the recipe is filed at or below the branch.
-    pub fn holds(&self, branch: &Facet) -> bool
-        ensures { result ≡ holds_at (held_by self.now) branch.now }
-    {
-        self.facets.iter().any(|facet| facet.is_at_or_below(branch))
-    }
 }
 
 // How many recipes are filed at or below the branch, each counted once.
