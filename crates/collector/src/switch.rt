@@ -11,7 +11,7 @@ use crate::fault::{CollectingFault, OpeningFault};
 use docset::DocId;
 use segment::Segment;
 
-// A yes or no beside its collector.
+// A yes or no beside its collector, and no `Option` of one: what is switched off keeps its collector.
 #[derive(Clone, Copy, Debug, Drop)]
 pub struct Switch<C> {
     on: bool,

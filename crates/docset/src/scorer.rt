@@ -4,7 +4,7 @@ ghost use Rattle.docset.specs.Pairs.{Rising, docs_of, first_doc_of, first_doc, f
 
 pub type DocId = u32;
 
-// stands after the last document
+// stands after the last document: a docset answers a number and no `Option`, as in tantivy
 pub const TERMINATED: DocId = 2_147_483_647;
 
 // how many documents `fill_buffer` writes at most

@@ -10,6 +10,7 @@ mod text;
 // stands between two steps
 const SEPARATOR: u8 = 0;
 
+// A fixed array with a length: a facet is `Copy`, and nothing here is on the heap.
 #[derive(Clone, Copy)]
 pub struct Facet {
     bytes: [u8; 127],

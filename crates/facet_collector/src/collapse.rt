@@ -17,7 +17,7 @@ pub const MOST_TERMS: usize = 4096;
 
 pub const MOST_CHILDREN: usize = 128;
 
-// stands for no child
+// stands for no child, so that an entry of the mapping is a pair and takes 8 bytes
 pub const NOTHING: (u32, u8) = (u32::MAX, 0);
 
 // Whether the facet stands behind the term.
@@ -118,7 +118,7 @@ impl<'a> Walk<'a> {
 pub struct Collapse {
     // the child's first ordinal, and the requested facet's depth
     mapping: [(u32, u8); MOST_TERMS],
-    // the child's number
+    // the child's number, beside the mapping, so that collecting reads an entry of 2 bytes
     slots: [Option<u8>; MOST_TERMS],
 }
 
@@ -134,6 +134,7 @@ impl Collapse {
             first: 0,
             children: 0,
         };
+        // by ordinal, which is where the tables are written
         let mut ordinal = 0;
         while let Some(term) = column.term(ordinal) {
             if let Some((entry, slot)) = walk.step(requests, column, ordinal, term)? {

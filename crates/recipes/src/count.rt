@@ -1,7 +1,7 @@
 // How many recipes stand at or below each child of a branch.
 ghost use Rattle.std.specs.Prelude.{◌≡◌, map, IfOk};
 ghost use Rattle.recipes.specs.Counting.{recipes_at, Counted, all_reach, Children};
-ghost use Rattle.recipes.specs.Recipes.{held_by, entry_of};
+ghost use Rattle.recipes.specs.Recipes.{held_by, entry_at, entry_of};
 ghost use Rattle.std.specs.List.{flat_map};
 
 use crate::recipe::Recipe;
@@ -26,6 +26,7 @@ pub fn count_at(recipes: &[Recipe], branch: &Facet) -> u64
 fn children(heap: Global, recipes: &[Recipe], branch: &Facet) -> Result<BTreeSet<Facet>, AllocError>
     ensures { IfOk result (λ s. Children branch.now (flat_map held_by recipes.now) s.keys) }
 {
+    // loops, since `child_toward` promises cases and no equation, which a chain would mirror
     let mut children = BTreeSet::new(heap);
     for recipe in recipes {
         for facet in recipe.facets.iter() {
@@ -37,6 +38,23 @@ fn children(heap: Global, recipes: &[Recipe], branch: &Facet) -> Result<BTreeSet
     Ok(children)
 }
 
+// Each of the children with the number of recipes filed at or below it, in the order of facets.
+fn entries(
+    heap: Global,
+    recipes: &[Recipe],
+    children: &BTreeSet<Facet>,
+) -> Result<Vec<Entry>, AllocError>
+    ensures { IfOk result (λ v. v.items ≡ map (entry_at (map held_by recipes.now)) children.now.keys) }
+{
+    children
+        .iter()
+        .map(|child| Entry {
+            facet: *child,
+            count: count_at(recipes, child),
+        })
+        .collect(heap)
+}
+
 // Each child of the branch with the number of recipes filed at or below it, in the order of facets.
 pub fn count_children(
     heap: Global,
@@ -45,14 +63,7 @@ pub fn count_children(
 ) -> Result<Vec<Entry>, AllocError>
     ensures { IfOk result (λ v. Counted (map held_by recipes.now) branch.now (map entry_of v.items)) }
 {
-    let children = children(heap, recipes, branch)?;
-    children
-        .iter()
-        .map(|child| Entry {
-            facet: *child,
-            count: count_at(recipes, child),
-        })
-        .collect(heap)
+    entries(heap, recipes, &children(heap, recipes, branch)?)
 }
 
 // Whether every entry reaches the minimum.

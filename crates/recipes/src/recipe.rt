@@ -3,6 +3,7 @@ use facet::Facet;
 
 #[derive(Drop)]
 pub struct Recipe {
+    // any bytes, and so no `String`
     pub name: Vec<u8>,
     pub facets: Vec<Facet>,
 }

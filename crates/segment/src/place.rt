@@ -4,7 +4,8 @@ ghost use Rattle.segment.specs.Fields.{place_of};
 
 use crate::field::Field;
 
-// The place of the first field whose name is equal, byte for byte.
+// The place of the first field whose name is equal, byte for byte. Its loops are the definition of "first" and "equal", and a
+// place is what is broken with, so they stay.
 pub(crate) fn place_of(fields: &[Field], name: &[u8]) -> Option<usize>
     ensures { result ≡ place_of fields.now name.now }
 {

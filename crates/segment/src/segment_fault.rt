@@ -36,6 +36,7 @@ pub struct AtPlace<E> {
     pub fault: E,
 }
 
+// By hand, since clauses name the fault that `?` makes, and a derive promises nothing of it.
 impl From<AtPlace<ColumnFault>> for SegmentFault {
     ghost from_gives = { λ e r. r ≡ Column e.place e.fault };
 

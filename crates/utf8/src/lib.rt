@@ -5,7 +5,8 @@ ghost use Rattle.std.specs.Prelude.{◌≡◌, ◌<◌, ◌≤◌, true, false, 
 ghost use Rattle.utf8.specs.Octets.{utf8, octets, within, tail};
 ghost use Rattle.utf8.specs.Rows.{lead, row_says, tails};
 
-// What follows a lead byte: how many bytes the sequence has, and the bounds of the second.
+// What follows a lead byte: how many bytes the sequence has, and the bounds of the second. A length in a row is a number, as
+// the table is by definition.
 #[derive(Clone, Copy)]
 struct Row {
     len: u8,

@@ -87,6 +87,7 @@ impl Facet {
         ensures law { ReadsBack }
         ensures worked { WorkedCases }
     {
+        // on the stack, since nothing here is on the heap
         let mut text = [0; 255];
         let len = self.print(&mut text)?;
         Facet::from_text(&text[..len])
@@ -97,6 +98,7 @@ impl fmt::Display for Facet {
     ghost output = { λ f. Some (printed f) };
 
     fn fmt<W: fmt::Write>(&self, f: &mut fmt::Formatter<W>) -> fmt::Result {
+        // on the stack, since nothing here is on the heap
         let mut text = [0; 255];
         let Ok(len) = self.print(&mut text) else {
             return Err(fmt::Error);

@@ -69,6 +69,7 @@ impl Facet {
         unescape(rest)
     }
 
+    // Both readings take bytes, and have the names of tantivy: a `TryFrom` could be only one of them.
     pub fn from_encoded(encoded: &[u8]) -> Result<Facet, FacetFault>
         ensures { result ≡ decoded encoded.now }
     {
