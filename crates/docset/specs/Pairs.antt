@@ -1,5 +1,5 @@
 -- Documents with their scores, in the order in which they come. Assumes nothing.
-use Rattle.std.specs.Prelude.{◌≡◌, ℕ, Bool, true, false, ◌&&◌, List, [], ◌∷◌, map, pos, nat_lt, refl, Float}
+use Rattle.std.specs.Prelude.{◌≡◌, ℕ, Bool, true, false, cond, ◌&&◌, List, [], ◌∷◌, map, pos, nat_lt, refl, Float}
 use Rattle.std.specs.Float.{fin, binary32}
 use Rattle.std.specs.Float.Ieee.{of_bits}
 use Rattle.std.specs.List.{range_with_len}
@@ -60,3 +60,12 @@ all_from d n = map (λ k. (k, one_score)) (range_with_len d n)
 -- all documents below a number
 abbrev pub all_below : ℕ → List (ℕ × Float)
 all_below n = all_from 0 n
+
+-- the pairs, or none where the first document is not above another
+abbrev pub only_above : ℕ → List (ℕ × Float) → List (ℕ × Float)
+only_above d ps = cond (nat_lt d (first_doc ps)) ps []
+
+-- the pairs up to where the documents stop rising strictly below the end
+abbrev pub rising_front : List (ℕ × Float) → List (ℕ × Float)
+rising_front [] = []
+rising_front (p ∷ ps) = cond (nat_lt p.0 terminated) (p ∷ only_above p.0 (rising_front ps)) []
