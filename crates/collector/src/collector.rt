@@ -12,7 +12,8 @@ use crate::fault::{CollectingFault, OpeningFault};
 use docset::DocId;
 use segment::Segment;
 
-// A child is handed its segment at each call. Handed another, it means anything, but stays in bounds.
+// A child is handed its segment at each call. Handed another, it means anything, but stays in bounds: so each clause on a
+// child begins with whether it was opened, which is said by two members of the trait and would be no plainer under a name.
 pub trait Collector {
     // what collects within one segment
     type Child: Drop;

@@ -1,5 +1,5 @@
-// Three collectors side by side. A tuple of three is no pair, so it has an impl of its own; it means the pair of its
-// first and the pair of the others.
+// Three collectors side by side. A tuple of three is no pair, so it has an impl of its own, written out, since one that a
+// macro writes is refused; it means the pair of its first and the pair of the others.
 ghost use Rattle.std.specs.Prelude.{◌≡◌};
 ghost use Rattle.collector.specs.Combined.{triple_of, same_triple};
 ghost use Rattle.collector.specs.Places.{triple_places};

@@ -8,6 +8,7 @@ ghost use Rattle.docset.specs.Pairs.{rises};
 use crate::fault::ScorerFault;
 use crate::scorer::{DocId, DocSet, Scorer, TERMINATED};
 
+// Two lists, as callers hold them: whether they are as long as one another is a question of its own.
 #[derive(Drop)]
 pub struct Held<'a> {
     docs: &'a [u32],

@@ -280,4 +280,4 @@ module _ (rs ts : List (List ℕ)) (i : ℕ) (l : i < length ts) (small : length
 pub mapping_filled : (rs ts : List (List ℕ)) {i n : ℕ} (mapping : List (ℕ × ℕ)) (slots : List (Option ℕ)) → i ≤ length ts → length ts ≤ i → n ≡ length (children rs (take i ts)) → n ≤ 128 → Filled rs ts i mapping slots → Collapses rs ts mapping slots
 mapping_filled rs ts {i} mapping slots h k e few f =
     let z = ap (λ us. length (children rs us)) (take_all i ts k) in
-    record { few = omega arith; slotted = λ o l. f.slotted o (omega arith); mapped = λ o l. f.mapped o (omega arith) }
+    record { few = omega arith; full = (f.mapping_full, f.slots_full); slotted = λ o l. f.slotted o (omega arith); mapped = λ o l. f.mapped o (omega arith) }

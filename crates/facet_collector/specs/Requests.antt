@@ -35,5 +35,6 @@ Told rs ts i (Some m) = (m.0 ≡ collapsed rs ts i) × (Some m.1 ≡ slot_of (ch
 -- what the ordinals of terms are collapsed to: each one's child by its number, and what the ordinal maps to
 pub record Collapses (rs ts : List (List ℕ)) (mapping : List (ℕ × ℕ)) (slots : List (Option ℕ)) : Type 0 where
   pub few : length (children rs ts) ≤ 128
+  pub full : (length mapping ≡ 4096) × (length slots ≡ 4096)
   pub slotted : (o : ℕ) → o < length ts → slice_index_or slots o None ≡ slot_of (children rs ts) (leads rs (slice_index_or ts o []))
   pub mapped : (o : ℕ) → o < length ts → slice_index_or mapping o nothing ≡ collapsed rs ts o

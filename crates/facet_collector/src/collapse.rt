@@ -74,7 +74,7 @@ fn child_end(requests: &Requests, at: usize, term: &[u8]) -> Option<(usize, u8)>
 struct Walk<'a> {
     // requested facets that do not stand behind the term
     at: usize,
-    // the last child, and its first ordinal
+    // the last child, and its first ordinal; nothing before the first, as no child is empty, so that one test tells both
     child: &'a [u8],
     first: u32,
     // how many children there are
@@ -114,11 +114,11 @@ impl<'a> Walk<'a> {
 }
 
 // What the ordinals of a column are collapsed to.
-#[derive(Clone, Copy)]
+#[derive(Drop)]
 pub struct Collapse {
     // the child's first ordinal, and the requested facet's depth
     mapping: [(u32, u8); MOST_TERMS],
-    // the child's number, beside the mapping, so that collecting reads an entry of 2 bytes
+    // the child's number, in a table of its own, as an entry of the mapping is a pair
     slots: [Option<u8>; MOST_TERMS],
 }
 
@@ -134,7 +134,7 @@ impl Collapse {
             first: 0,
             children: 0,
         };
-        // by ordinal, which is where the tables are written
+        // by ordinal, since nothing would be known of tables that are lent to a chain
         let mut ordinal = 0;
         while let Some(term) = column.term(ordinal) {
             if let Some((entry, slot)) = walk.step(requests, column, ordinal, term)? {

@@ -32,6 +32,7 @@ pub(crate) fn read_line<'a>(
     ensures { Answers told_of (recipe_of number line.now) result }
 {
     let mut fields = line.split(|b| *b == TAB).enumerate();
+    // a split has a first piece
     let (_, name) = fields.next().unwrap();
     let name = Vec::from_slice(heap, name)?;
     let mut facets = Vec::new(heap);

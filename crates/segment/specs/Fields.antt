@@ -8,7 +8,7 @@ use Rattle.segment.specs.declared.field.Kind.{Kind}
 use Rattle.segment.specs.declared.field.Kind.TheVariants.{Facet, Other}
 use Rattle.segment.specs.declared.segment_fault.SegmentFault.{SegmentFault}
 use Rattle.segment.specs.declared.segment_fault.SegmentFault.TheVariants.{Column, Name}
-use Rattle.segment.specs.Columns.{fault_of}
+use Rattle.segment.specs.Tables.{tables_fault}
 use Rattle.segment.specs.Items.{first_failing}
 
 -- the name of the field at a place
@@ -27,7 +27,7 @@ admits fs name = (nat_le 1 (length name) && nat_le (length name) 64) && (not (is
 
 -- the questions of a facet field's column
 abbrev pub kind_fault : Kind → Option ColumnFault
-kind_fault (Facet t) = fault_of t.term_bytes.now t.term_ends.now t.row_ends.now t.ordinals.now
+kind_fault (Facet t) = tables_fault t
 kind_fault Other = None
 
 -- the fault of a field behind others, with its place

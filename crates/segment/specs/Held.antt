@@ -3,7 +3,8 @@ use Rattle.std.specs.Prelude.{◌≡◌, ℕ, cond, List, [], Result, IfOk}
 use Rattle.std.specs.Result.{result_err}
 use Rattle.segment.specs.declared.column.Column.{Column}
 use Rattle.segment.specs.declared.fault.ColumnFault.{ColumnFault}
-use Rattle.segment.specs.Columns.{fault_of, sound}
+use Rattle.segment.specs.declared.field.Tables.{Tables}
+use Rattle.segment.specs.Tables.{tables_fault, are_sound, table_terms, table_rows}
 use Rattle.segment.specs.Items.{items}
 
 -- its terms, by ordinal
@@ -15,12 +16,12 @@ abbrev pub rows_of : Column → List (List ℕ)
 rows_of c = items c.rows.ends.now c.rows.all.now
 
 -- it has these tables where they are sound, and else empty ones
-pub record TablesOf (c : Column) (bytes ends row_ends ordinals : List ℕ) : Type 0 where
-  pub terms : terms_of c ≡ cond (sound bytes ends row_ends ordinals) (items ends bytes) []
-  pub rows : rows_of c ≡ cond (sound bytes ends row_ends ordinals) (items row_ends ordinals) []
+pub record TablesOf (c : Column) (t : Tables) : Type 0 where
+  pub terms : terms_of c ≡ cond (are_sound t) (table_terms t) []
+  pub rows : rows_of c ≡ cond (are_sound t) (table_rows t) []
 
 -- the column that has these tables, or the first question that they fail
-pub record Tried (r : Result Column ColumnFault) (bytes ends row_ends ordinals : List ℕ) : Type 0 where
-  pub fault : result_err r ≡ fault_of bytes ends row_ends ordinals
-  pub terms : IfOk r (λ c. terms_of c ≡ items ends bytes)
-  pub rows : IfOk r (λ c. rows_of c ≡ items row_ends ordinals)
+pub record Tried (r : Result Column ColumnFault) (t : Tables) : Type 0 where
+  pub fault : result_err r ≡ tables_fault t
+  pub terms : IfOk r (λ c. terms_of c ≡ table_terms t)
+  pub rows : IfOk r (λ c. rows_of c ≡ table_rows t)

@@ -1,5 +1,6 @@
 pub mod Items
 pub mod Columns
+pub mod Tables
 pub mod Held
 pub mod Fields
 pub mod Segments

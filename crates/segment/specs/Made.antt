@@ -7,7 +7,7 @@ use Rattle.segment.specs.declared.field.Kind.{Kind}
 use Rattle.segment.specs.declared.field.Kind.TheVariants.{Facet, Other}
 use Rattle.segment.specs.declared.segment.Segment.{Segment}
 use Rattle.segment.specs.Held.{terms_of, rows_of}
-use Rattle.segment.specs.Items.{items}
+use Rattle.segment.specs.Tables.{table_terms, table_rows}
 use Rattle.segment.specs.Segments.{whole, alive_in}
 
 abbrev pub fields_of : Segment → List Field
@@ -24,11 +24,11 @@ pub record PartsOf (s : Segment) (fs : List Field) (docs : ℕ) (set : Option (B
 
 -- the terms and rows of a field
 abbrev pub kind_terms : Kind → List (List ℕ)
-kind_terms (Facet t) = items t.term_ends.now t.term_bytes.now
+kind_terms (Facet t) = table_terms t
 kind_terms Other = []
 
 abbrev pub kind_rows : Kind → List (List ℕ)
-kind_rows (Facet t) = items t.row_ends.now t.ordinals.now
+kind_rows (Facet t) = table_rows t
 kind_rows Other = []
 
 abbrev pub is_facet : Kind → Bool

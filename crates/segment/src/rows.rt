@@ -21,7 +21,7 @@ fn check_row(row: &[u32], start: usize) -> Result<(), usize>
 fn check_rises(rows: Items<u32>) -> Result<(), usize>
     ensures { result_err result ≡ falls_from 0 (items rows.entry.ends.now rows.entry.all.now) }
 {
-    // by place, since a row is asked with where it begins
+    // by place, since a row is asked with where it begins; `try_for_each` over places would be no plainer
     for i in 0..rows.len() {
         check_row(rows.at(i), start_of(rows.ends, i) as usize)?;
     }

@@ -7,7 +7,8 @@ use crate::field::Field;
 pub mod check;
 pub mod make;
 
-// It borrows its fields and its alive set. A ghost field, since what is `Copy` and has a lifetime can have no model.
+// It borrows its fields and its alive set, which are passed one by one: a struct of the three would be this one without
+// its fact. A ghost field, since what is `Copy` and has a lifetime can have no model.
 #[derive(Clone, Copy)]
 pub struct Segment<'a> {
     fields: &'a [Field<'a>],

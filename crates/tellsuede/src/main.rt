@@ -137,7 +137,7 @@ fn print_list(
     let count = list.recipes.len();
     println!(rt; "{name}, recipes: {count}")?;
     for branch in options.branches.iter() {
-        print_branch(rt, list.recipes.as_slice(), branch, options.min)?;
+        print_branch(rt, &list.recipes, branch, options.min)?;
     }
     Ok(())
 }

@@ -15,7 +15,7 @@ impl<'a> TryFrom<Tables<'a>> for Column<'a> {
 
     type Error = ColumnFault;
 
-    ghost try_from_gives = { λ t r. Tried r t.term_bytes.now t.term_ends.now t.row_ends.now t.ordinals.now };
+    ghost try_from_gives = { λ t r. Tried r t };
 
     fn try_from(tables: Tables<'a>) -> Result<Column<'a>, ColumnFault> {
         if tables.term_ends.len() > MOST_TERMS || tables.row_ends.len() > MOST_ROWS {
@@ -29,11 +29,12 @@ impl<'a> TryFrom<Tables<'a>> for Column<'a> {
 
 impl<'a> Column<'a> {
     ghost use Rattle.std.specs.Prelude.{◌≡◌};
-    ghost use Rattle.segment.specs.Columns.{fault_of, asked};
+    ghost use Rattle.segment.specs.Columns.{asked};
+    ghost use Rattle.segment.specs.Tables.{tables_fault};
 
     // Whether the tables make a column, and else the first question that they fail, with the place.
     pub fn check(tables: Tables<'a>) -> Result<(), ColumnFault>
-        ensures { result ≡ asked (fault_of tables.entry.term_bytes.now tables.entry.term_ends.now tables.entry.row_ends.now tables.entry.ordinals.now) }
+        ensures { result ≡ asked (tables_fault tables.entry) }
     {
         Column::try_from(tables).map(|_| ())
     }

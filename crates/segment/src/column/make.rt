@@ -1,6 +1,6 @@
 // A column from tables that were checked, and what it holds.
 ghost use Rattle.std.specs.Prelude.{◌≡◌, ◌<◌, ◌≤◌, true, [], length, MatchOption, slice_index_or};
-ghost use Rattle.segment.specs.Columns.{sound as is_sound};
+ghost use Rattle.segment.specs.Tables.{are_sound, table_terms, table_rows};
 ghost use Rattle.segment.specs.Laws.{Worked};
 ghost use Rattle.segment.specs.Held.{terms_of, rows_of, TablesOf};
 ghost use Rattle.segment.specs.Items.{items};
@@ -25,16 +25,16 @@ impl<'a> Column<'a> {
 
     // The column of the tables, or the empty one where the check refuses them.
     pub fn new(tables: Tables<'a>) -> Column<'a>
-        ensures { TablesOf result tables.entry.term_bytes.now tables.entry.term_ends.now tables.entry.row_ends.now tables.entry.ordinals.now }
+        ensures { TablesOf result tables.entry }
     {
         Column::try_from(tables).unwrap_or(Column::empty())
     }
 
     // The column of tables that were checked.
     pub(crate) fn checked(tables: Tables<'a>) -> Column<'a>
-        requires { is_sound tables.term_bytes.now tables.term_ends.now tables.row_ends.now tables.ordinals.now ≡ true }
-        ensures terms { terms_of result ≡ items tables.entry.term_ends.now tables.entry.term_bytes.now }
-        ensures rows { rows_of result ≡ items tables.entry.row_ends.now tables.entry.ordinals.now }
+        requires { are_sound tables ≡ true }
+        ensures terms { terms_of result ≡ table_terms tables.entry }
+        ensures rows { rows_of result ≡ table_rows tables.entry }
     {
         Column {
             terms: Items {
