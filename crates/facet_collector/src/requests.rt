@@ -1,7 +1,12 @@
 // Facets whose children are counted.
-ghost use Rattle.std.specs.Prelude.{◌≡◌, ◌≤◌, true, [], length};
-ghost use Rattle.facet_collector.specs.Children.{requestable};
+ghost use Rattle.std.specs.Prelude.{◌≡◌, ◌<◌, ◌≤◌, true, [], length};
+ghost use Rattle.std.specs.declared.cmp.Ordering.TheVariants.{Less, Greater};
+ghost use Rattle.facet.specs.Paths.{order};
+ghost use Rattle.facet_collector.specs.Adding.{Adds, WorkedCases};
+ghost use Rattle.facet_collector.specs.Children.{insert as with, requestable};
+ghost use Rattle.std.specs.List.Sorted.{IsPartitionPoint};
 
+use crate::request_fault::RequestFault;
 use facet::Facet;
 use std::marker::Model;
 
@@ -42,5 +47,40 @@ impl Requests {
         ensures bound { length self.now ≤ 16 }
     {
         &self.facets[..self.len]
+    }
+
+    // Takes the facet in, where none is above or below it; nothing changes where it is refused, or is there already.
+    pub fn add(&mut self, facet: Facet) -> Result<(), RequestFault>
+        ensures added { Adds self.old facet result self.new }
+        ensures worked { WorkedCases }
+    {
+        let requests = self.as_slice();
+        if requests.iter().any(|request| request.is_prefix_of(&facet)) {
+            return Err(RequestFault::BelowRequested);
+        }
+        if requests.iter().any(|request| facet.is_prefix_of(request)) {
+            return Err(RequestFault::AboveRequested);
+        }
+        let Err(at) = requests.binary_search(&facet) else {
+            return Ok(());
+        };
+        if requests.len() == MOST_REQUESTS {
+            return Err(RequestFault::TooMany);
+        }
+        self.insert(at, facet);
+        Ok(())
+    }
+
+    // Puts the facet at its place.
+    fn insert(&mut self, at: usize, facet: Facet)
+        requires room { length self.old < 16 }
+        requires within { at ≤ length self.old }
+        requires place { IsPartitionPoint (λ r. order r facet ≡ Less) (λ r. order r facet ≡ Greater) self.old at }
+        requires requestable { requestable (with facet self.old) ≡ true }
+        ensures { self.new ≡ with facet self.old }
+    {
+        self.facets.copy_within(at..self.len, at + 1);
+        self.facets[at] = facet;
+        self.len += 1;
     }
 }
