@@ -36,7 +36,7 @@ insert_behind b c [] h a = (h, tt)
 insert_behind b c (d ∷ ds) h a =
     by_cases (Behind b) (order c d) _ _ _ (λ _. (h, a)) (λ _. a) (λ _. (a.0, insert_behind b c ds h a.1))
 
-insert_climbs : (c : List ℕ) (ds : List (List ℕ)) → Climbing ds → Climbing (insert c ds)
+pub insert_climbs : (c : List ℕ) (ds : List (List ℕ)) → Climbing ds → Climbing (insert c ds)
 insert_climbs c [] r = (tt, tt)
 insert_climbs c (d ∷ ds) r =
     by_cases Climbing (order c d) _ _ _ (λ h. ((h, behind_further c d ds h r.0), r)) (λ _. r) (λ h. (insert_behind d c ds (flipped c d h) r.0, insert_climbs c ds r.1))

@@ -1,9 +1,13 @@
 // Facets whose children are counted.
-ghost use Rattle.std.specs.Prelude.{◌≡◌, ◌<◌, ◌≤◌, true, [], length};
+ghost use Rattle.std.specs.Prelude.{◌≡◌, Decides, ◌<◌, ◌≤◌, true, [], length};
 ghost use Rattle.std.specs.declared.cmp.Ordering.TheVariants.{Less, Greater};
-ghost use Rattle.facet.specs.Paths.{order};
+ghost use Rattle.std.specs.Cmp.{partial_equiv_from_equiv};
+ghost use Rattle.std.specs.Cmp.Lexicographic.{lists_equiv, lists_per, on_texts_equal, pointwise};
+ghost use Rattle.std.specs.Str.{bytes_eq};
+ghost use Rattle.facet.specs.Paths.{above, order};
 ghost use Rattle.facet_collector.specs.Adding.{Adds, WorkedCases};
 ghost use Rattle.facet_collector.specs.Children.{insert as with, requestable};
+ghost use Rattle.std.specs.List.{list_any};
 ghost use Rattle.std.specs.List.Sorted.{IsPartitionPoint};
 
 use crate::request_fault::RequestFault;
@@ -31,6 +35,24 @@ impl Model for Requests {
     ghost invariant = { IsRequested };
 }
 
+// By hand: a derive would compare the arrays, whose ends are not seen.
+impl PartialEq for Requests {
+    ghost eq = { pointwise bytes_eq };
+
+    ghost laws = { lists_per (partial_equiv_from_equiv (on_texts_equal (λ f. f))) };
+
+    fn eq(&self, other: &Requests) -> bool
+        ensures value { result ≡ pointwise bytes_eq self.now other.now }
+        ensures decides { Decides result (self.now ≡ other.now) }
+    {
+        self.as_slice() == other.as_slice()
+    }
+}
+
+impl Eq for Requests {
+    ghost laws = { lists_equiv (on_texts_equal (λ f. f)) };
+}
+
 impl Requests {
     pub fn new() -> Requests
         ensures { result ≡ [] }
@@ -54,21 +76,36 @@ impl Requests {
         ensures added { Adds self.old facet result self.new }
         ensures worked { WorkedCases }
     {
-        let requests = self.as_slice();
-        if requests.iter().any(|request| request.is_prefix_of(&facet)) {
+        if self.is_above(&facet) {
             return Err(RequestFault::BelowRequested);
         }
-        if requests.iter().any(|request| facet.is_prefix_of(request)) {
+        if self.is_below(&facet) {
             return Err(RequestFault::AboveRequested);
         }
-        let Err(at) = requests.binary_search(&facet) else {
+        let Err(at) = self.as_slice().binary_search(&facet) else {
             return Ok(());
         };
-        if requests.len() == MOST_REQUESTS {
+        if self.len == MOST_REQUESTS {
             return Err(RequestFault::TooMany);
         }
         self.insert(at, facet);
         Ok(())
+    }
+
+    // Whether a requested facet is above this one.
+    fn is_above(&self, facet: &Facet) -> bool
+        ensures { result ≡ list_any (λ r. above r facet.now) self.now }
+    {
+        let mut requests = self.as_slice().iter();
+        requests.any(|request| request.is_prefix_of(facet))
+    }
+
+    // Whether a requested facet is below this one.
+    fn is_below(&self, facet: &Facet) -> bool
+        ensures { result ≡ list_any (λ r. above facet.now r) self.now }
+    {
+        let mut requests = self.as_slice().iter();
+        requests.any(|request| facet.is_prefix_of(request))
     }
 
     // Puts the facet at its place.
