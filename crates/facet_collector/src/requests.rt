@@ -6,7 +6,7 @@ ghost use Rattle.std.specs.Cmp.Lexicographic.{lists_equiv, lists_per, on_texts_e
 ghost use Rattle.std.specs.Str.{bytes_eq};
 ghost use Rattle.facet.specs.Paths.{above, order};
 ghost use Rattle.facet_collector.specs.Adding.{Adds, WorkedCases};
-ghost use Rattle.facet_collector.specs.Children.{insert as with, requestable};
+ghost use Rattle.facet_collector.specs.Children.{insert as inserted, requestable};
 ghost use Rattle.std.specs.List.{list_any};
 ghost use Rattle.std.specs.List.Sorted.{IsPartitionPoint};
 
@@ -35,7 +35,7 @@ impl Model for Requests {
     ghost invariant = { IsRequested };
 }
 
-// By hand: a derive would compare the arrays, whose ends are not seen.
+// By hand: a derive would compare the arrays, and what stands there behind the requested facets.
 impl PartialEq for Requests {
     ghost eq = { pointwise bytes_eq };
 
@@ -96,16 +96,18 @@ impl Requests {
     fn is_above(&self, facet: &Facet) -> bool
         ensures { result ≡ list_any (λ r. above r facet.now) self.now }
     {
-        let mut requests = self.as_slice().iter();
-        requests.any(|request| request.is_prefix_of(facet))
+        self.as_slice()
+            .iter()
+            .any(|request| request.is_prefix_of(facet))
     }
 
     // Whether a requested facet is below this one.
     fn is_below(&self, facet: &Facet) -> bool
         ensures { result ≡ list_any (λ r. above facet.now r) self.now }
     {
-        let mut requests = self.as_slice().iter();
-        requests.any(|request| facet.is_prefix_of(request))
+        self.as_slice()
+            .iter()
+            .any(|request| facet.is_prefix_of(request))
     }
 
     // Puts the facet at its place.
@@ -113,8 +115,8 @@ impl Requests {
         requires room { length self.old < 16 }
         requires within { at ≤ length self.old }
         requires place { IsPartitionPoint (λ r. order r facet ≡ Less) (λ r. order r facet ≡ Greater) self.old at }
-        requires requestable { requestable (with facet self.old) ≡ true }
-        ensures { self.new ≡ with facet self.old }
+        requires requestable { requestable (inserted facet self.old) ≡ true }
+        ensures { self.new ≡ inserted facet self.old }
     {
         self.facets.copy_within(at..self.len, at + 1);
         self.facets[at] = facet;
