@@ -20,7 +20,7 @@ use Rattle.facet_collector.specs.Children.{apart, requestable, insert, member}
 use Rattle.facet_collector.proofs.Ascents.{sorted_from_test, test_from_sorted}
 use Rattle.facet_collector.proofs.Paths.{apart_sym}
 use Rattle.facet_collector.proofs.Sets.{Behind, Climbing, insert_climbs}
-use Rattle.facet_collector.proofs.Sums.{by_cases, is_false, order_self, order_turn, same_self}
+use Rattle.facet_collector.proofs.Sums.{by_cases, is_false, order_self, order_turn}
 
 -- ---- in the array
 
