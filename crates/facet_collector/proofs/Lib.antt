@@ -6,5 +6,6 @@ pub mod Counting
 pub mod Lasts
 pub mod Steps
 pub mod Cursor
+pub mod Adding
 pub mod Seeks
 pub mod Walks

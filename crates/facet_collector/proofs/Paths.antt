@@ -46,7 +46,7 @@ module _ (f x y : List ℕ) (u : above x f ≡ true) (v : above y f ≡ true) (n
       let t = (prefix x f (above x f) refl).together u y l (less_greater ((prefix y f (above y f) refl).before v)) in
       ⊎_elim (λ (k : y ≡ x). sym k) (λ (k : above x y ≡ true). absurd (both_ways (above x y) (not-true _ (and_parts _ (not (above y x)) n).0) k)) (at_or_below_cases y x t)
 
-apart_sym : (x y : List ℕ) → apart x y ≡ true → apart y x ≡ true
+pub apart_sym : (x y : List ℕ) → apart x y ≡ true → apart y x ≡ true
 apart_sym x y n = let (a, b) = and_parts (not (above x y)) (not (above y x)) n in and_from _ _ b a
 
 -- two that are apart are not both above a third

@@ -1,19 +1,19 @@
 -- Children in order, each once. Assumes nothing.
-use Rattle.std.proofs.Common.{◌≡◌, ℕ, ◌<◌, Bool, true, false, cond, ◌||◌, ltb, List, [], ◌∷◌, length, Ordering, Less, Equal, Greater, sym, refl, ap, ◌∙◌, subst, ⊎_elim, arith}
+use Rattle.std.proofs.Common.{◌≡◌, ℕ, ◌<◌, Bool, true, false, cond, ◌||◌, ltb, List, [], ◌∷◌, length, Less, sym, refl, ap, ◌∙◌, subst, ⊎_elim, arith}
 use Rattle.collector.specs.Facets.{requested_child, holds, count_of}
 use Rattle.facet.specs.Paths.{at_or_below, child, order}
 use Rattle.std.proofs.lemmas.Slice.Eq.{bytes_eq-Decides}
 use Rattle.std.proofs.lemmas.Map.Lookups.{exact_bytes}
 use Rattle.std.proofs.lemmas.Bool.{and_from, or_cases, both_ways, true≢false}
 use Rattle.std.specs.Cmp.Lexicographic.{nat_list_cmp_total}
-use Rattle.std.specs.Ordering.{is_lt, match_ordering as by_order}
+use Rattle.std.specs.Ordering.{is_lt}
 use Rattle.std.specs.List.{list_all, AllByRecursion}
 use Rattle.std.specs.Str.{bytes_eq}
 use Rattle.facet_collector.specs.Ascents.{is_strictly_sorted_by}
 use Rattle.facet_collector.specs.Children.{requestable, leads, insert, insert_some, children_from, children, member, ones}
 use Rattle.facet_collector.specs.Entries.{sound}
 use Rattle.facet_collector.proofs.Paths.{leads_sound, leads_is, flipped}
-use Rattle.facet_collector.proofs.Sums.{by_cases, same_self}
+use Rattle.facet_collector.proofs.Sums.{by_cases}
 
 pub order_trans : (s t u : List ℕ) → order s t ≡ Less → order t u ≡ Less → order s u ≡ Less
 order_trans s t u = nat_list_cmp_total.trans s t u
@@ -36,7 +36,7 @@ insert_behind b c [] h a = (h, tt)
 insert_behind b c (d ∷ ds) h a =
     by_cases (Behind b) (order c d) _ _ _ (λ _. (h, a)) (λ _. a) (λ _. (a.0, insert_behind b c ds h a.1))
 
-insert_climbs : (c : List ℕ) (ds : List (List ℕ)) → Climbing ds → Climbing (insert c ds)
+pub insert_climbs : (c : List ℕ) (ds : List (List ℕ)) → Climbing ds → Climbing (insert c ds)
 insert_climbs c [] r = (tt, tt)
 insert_climbs c (d ∷ ds) r =
     by_cases Climbing (order c d) _ _ _ (λ h. ((h, behind_further c d ds h r.0), r)) (λ _. r) (λ h. (insert_behind d c ds (flipped c d h) r.0, insert_climbs c ds r.1))

@@ -2,4 +2,5 @@
 #![tactic(auto)]
 
 mod collapse;
+mod request_fault;
 mod requests;
