@@ -8,3 +8,4 @@ pub mod Steps
 pub mod Cursor
 pub mod Seeks
 pub mod Walks
+pub mod Places

@@ -5,3 +5,5 @@ pub mod Children
 pub mod Counting
 pub mod Requests
 pub mod Requested
+pub mod Held
+pub mod Placed

@@ -2,4 +2,5 @@
 #![tactic(auto)]
 
 mod collapse;
+mod counts;
 mod requests;
