@@ -9,3 +9,4 @@ pub mod Cursor
 pub mod Seeks
 pub mod Walks
 pub mod Places
+pub mod Shifts

@@ -1,8 +1,9 @@
 // Counts of documents by facet.
-ghost use Rattle.std.specs.Prelude.{◌≡◌, ◌==◌, true, false, [], length};
+ghost use Rattle.std.specs.Prelude.{◌≡◌, ◌==◌, ◌+◌, ◌<◌, ◌≤◌, true, false, [], length, take, IfNone, MatchOption};
+ghost use Rattle.std.specs.List.{insert};
 ghost use Rattle.collector.specs.Facets.{count_of};
-ghost use Rattle.facet_collector.specs.Entries.{sound, fits};
-ghost use Rattle.facet_collector.specs.Placed.{Placed};
+ghost use Rattle.facet_collector.specs.Entries.{put, sums, sound, fits};
+ghost use Rattle.facet_collector.specs.Placed.{Between, Placed, facet_at, entry as entry_of};
 
 use facet::Facet;
 use std::marker::Model;
@@ -28,6 +29,17 @@ impl Model for FacetCounts {
     ghost view = { held };
 
     ghost invariant = { IsHeld };
+}
+
+// Puts an entry at the place of the first `len`, and moves those from there on by one.
+fn shift_in(entries: &mut [(Facet, u64)], len: usize, at: usize, entry: (Facet, u64))
+    requires at { at ≤ len }
+    requires len { len < length entries.old }
+    ensures front { take (len + 1) entries.new ≡ insert (take len entries.old) at entry }
+    ensures len { length entries.new ≡ length entries.old }
+{
+    entries[len] = entry;
+    entries[at..len + 1].rotate_right(1);
 }
 
 impl FacetCounts {
@@ -76,5 +88,70 @@ impl FacetCounts {
             Ok(at) => self.as_slice()[at].1,
             Err(_) => 0,
         }
+    }
+
+    // Counts more at the entry of the place.
+    fn raise(&mut self, at: usize, count: u64) -> Option<()>
+        requires place { at < length self.old }
+        requires count { 0 < count }
+        ensures put { MatchOption result (fits (put (facet_at self.old at) count self.old) ≡ false) (λ _. self.new ≡ put (facet_at self.old at) count self.old) }
+        ensures none { IfNone result (self.new ≡ self.old) }
+    {
+        let (facet, counted) = self.as_slice()[at];
+        if count > MOST_COUNT - counted {
+            return None;
+        }
+        self.entries[at] = (facet, counted + count);
+        Some(())
+    }
+
+    // Makes room for an entry at the place.
+    fn insert(&mut self, at: usize, facet: &Facet, count: u64) -> Option<()>
+        requires place { Between self.old facet.now at }
+        requires count { 0 < count }
+        ensures put { MatchOption result (fits (put facet.now count self.old) ≡ false) (λ _. self.new ≡ put facet.now count self.old) }
+        ensures none { IfNone result (self.new ≡ self.old) }
+    {
+        if self.len == MOST_ENTRIES || count > MOST_COUNT {
+            return None;
+        }
+        shift_in(&mut self.entries, self.len, at, (*facet, count));
+        self.len += 1;
+        Some(())
+    }
+
+    // Counts more at a facet, where that fits.
+    pub fn add(&mut self, facet: &Facet, count: u64) -> Option<()>
+        ensures added { MatchOption result (fits (sums self.old (entry_of facet.now count)) ≡ false) (λ _. self.new ≡ sums self.old (entry_of facet.now count)) }
+        ensures none { IfNone result (self.new ≡ self.old) }
+    {
+        if count == 0 {
+            return Some(());
+        }
+        match self.place(facet) {
+            Ok(at) => self.raise(at, count),
+            Err(at) => self.insert(at, facet, count),
+        }
+    }
+
+    // Counts more at each facet of entries, where all that fits.
+    fn add_all(&mut self, entries: &[(Facet, u64)]) -> Option<()>
+        requires { sound entries.now ≡ true }
+        ensures { MatchOption result (fits (sums self.old entries.now) ≡ false) (λ _. self.new ≡ sums self.old entries.now) }
+    {
+        for (facet, count) in entries {
+            self.add(facet, *count)?;
+        }
+        Some(())
+    }
+
+    // The counts of both, where they fit.
+    pub fn join(&self, other: &FacetCounts) -> Option<FacetCounts>
+        ensures { MatchOption result (fits (sums self.now other.now) ≡ false) (λ counts. counts ≡ sums self.now other.now) }
+    {
+        let mut counts = FacetCounts::new();
+        counts.add_all(self.as_slice())?;
+        counts.add_all(other.as_slice())?;
+        Some(counts)
     }
 }
