@@ -10,3 +10,5 @@ pub mod Seeks
 pub mod Walks
 pub mod Places
 pub mod Shifts
+pub mod Fronts
+pub mod Gathers

@@ -7,3 +7,5 @@ pub mod Requests
 pub mod Requested
 pub mod Held
 pub mod Placed
+pub mod Ranks
+pub mod Fronts

@@ -2,9 +2,13 @@
 ghost use Rattle.std.specs.Prelude.{◌≡◌, ◌==◌, ◌+◌, ◌<◌, ◌≤◌, true, false, [], length, take, IfNone, MatchOption};
 ghost use Rattle.std.specs.List.{insert};
 ghost use Rattle.collector.specs.Facets.{count_of};
-ghost use Rattle.facet_collector.specs.Entries.{put, sums, sound, fits};
+ghost use Rattle.facet_collector.specs.Entries.{below, put, sums, sound, fits};
+ghost use Rattle.facet_collector.specs.Fronts.{IsFront};
+ghost use Rattle.facet_collector.specs.Ranks.{rank};
 ghost use Rattle.facet_collector.specs.Placed.{Between, Placed, facet_at, entry as entry_of};
 
+use crate::below::Below;
+use crate::rank::Ranked;
 use facet::Facet;
 use std::marker::Model;
 
@@ -53,9 +57,10 @@ impl FacetCounts {
     }
 
     pub fn len(&self) -> usize
-        ensures { result ≡ length self.now }
+        ensures value { result ≡ length self.now }
+        ensures bound { result ≤ 128 }
     {
-        self.len
+        self.as_slice().len()
     }
 
     pub fn is_empty(&self) -> bool
@@ -90,6 +95,21 @@ impl FacetCounts {
         }
     }
 
+    // The entries strictly below the facet, in the order of facets.
+    pub fn get<'a>(&'a self, facet: &'a Facet) -> Below<'a>
+        ensures value { result ≡ below facet.now self.now }
+        ensures bound { length result ≤ 128 }
+    {
+        Below::new(facet, self.as_slice())
+    }
+
+    // The first k of the entries strictly below the facet, or all of them: the higher count first, and then the smaller facet.
+    pub fn top_k(&self, facet: &Facet, k: usize) -> Ranked
+        ensures { IsFront rank k (below facet.now self.now) result }
+    {
+        Ranked::new(self.get(facet), k)
+    }
+
     // Counts more at the entry of the place.
     fn raise(&mut self, at: usize, count: u64) -> Option<()>
         requires place { at < length self.old }
@@ -105,30 +125,30 @@ impl FacetCounts {
         Some(())
     }
 
-    // Makes room for an entry at the place.
-    fn insert(&mut self, at: usize, facet: &Facet, count: u64) -> Option<()>
-        requires place { Between self.old facet.now at }
+    // Puts an entry at the place.
+    fn insert(&mut self, at: usize, facet: Facet, count: u64) -> Option<()>
+        requires place { Between self.old facet at }
         requires count { 0 < count }
-        ensures put { MatchOption result (fits (put facet.now count self.old) ≡ false) (λ _. self.new ≡ put facet.now count self.old) }
+        ensures put { MatchOption result (fits (put facet count self.old) ≡ false) (λ _. self.new ≡ put facet count self.old) }
         ensures none { IfNone result (self.new ≡ self.old) }
     {
         if self.len == MOST_ENTRIES || count > MOST_COUNT {
             return None;
         }
-        shift_in(&mut self.entries, self.len, at, (*facet, count));
+        shift_in(&mut self.entries, self.len, at, (facet, count));
         self.len += 1;
         Some(())
     }
 
     // Counts more at a facet, where that fits.
-    pub fn add(&mut self, facet: &Facet, count: u64) -> Option<()>
-        ensures added { MatchOption result (fits (sums self.old (entry_of facet.now count)) ≡ false) (λ _. self.new ≡ sums self.old (entry_of facet.now count)) }
+    pub fn add(&mut self, facet: Facet, count: u64) -> Option<()>
+        ensures added { MatchOption result (fits (sums self.old (entry_of facet count)) ≡ false) (λ _. self.new ≡ sums self.old (entry_of facet count)) }
         ensures none { IfNone result (self.new ≡ self.old) }
     {
         if count == 0 {
             return Some(());
         }
-        match self.place(facet) {
+        match self.place(&facet) {
             Ok(at) => self.raise(at, count),
             Err(at) => self.insert(at, facet, count),
         }
@@ -140,7 +160,7 @@ impl FacetCounts {
         ensures { MatchOption result (fits (sums self.old entries.now) ≡ false) (λ _. self.new ≡ sums self.old entries.now) }
     {
         for (facet, count) in entries {
-            self.add(facet, *count)?;
+            self.add(*facet, *count)?;
         }
         Some(())
     }

@@ -13,14 +13,14 @@ returns-then-self-eq-MOST_ENTRIES-clause-put c =
     let p = c.requires.place in
     let full : c.self.inside.len ≡ 128 → length es ≡ 128 = λ q. sym (ap length c.self.view_is) ∙ length-take-le c.self.inside.len c.self.inside.entries (let f = c.self.invariant.full in omega arith) ∙ q in
     elim c.then-self-eq-MOST_ENTRIES.branch [
-      then-self-eq-MOST_ENTRIES-via-then-self-eq-MOST_ENTRIES w ↦ new_unfit_many es c.args.at c.args.facet.now c.args.count p (full w.if-self-eq-MOST_ENTRIES.true)
-    | then-self-eq-MOST_ENTRIES-via-else-self-eq-MOST_ENTRIES+then-count-gt-MOST_COUNT w ↦ new_unfit_large es c.args.at c.args.facet.now c.args.count p w.if-count-gt-MOST_COUNT.true
+      then-self-eq-MOST_ENTRIES-via-then-self-eq-MOST_ENTRIES w ↦ new_unfit_many es c.args.at c.args.facet c.args.count p (full w.if-self-eq-MOST_ENTRIES.true)
+    | then-self-eq-MOST_ENTRIES-via-else-self-eq-MOST_ENTRIES+then-count-gt-MOST_COUNT w ↦ new_unfit_large es c.args.at c.args.facet c.args.count p w.if-count-gt-MOST_COUNT.true
     ]
 
 pub invariant_of-self : goal.invariant_of-self
 invariant_of-self c =
     let es = take c.self.inside.len c.self.inside.entries in
-    let f = c.args.facet.now in
+    let f = c.args.facet in
     let n = c.args.count in
     let p : Between es f c.args.at = rw c.self.view_is c.requires.place in
     let e = c.shift_in.ensures.front ∙ sym (put_new es c.args.at f n p) in
@@ -35,5 +35,5 @@ invariant_of-self c =
 pub returns-clause-put : goal.returns-clause-put
 returns-clause-put c =
     let es = take c.self.inside.len c.self.inside.entries in
-    let p : Between es c.args.facet.now c.args.at = rw c.self.view_is c.requires.place in
-    c.shift_in.ensures.front ∙ sym (put_new es c.args.at c.args.facet.now c.args.count p) ∙ ap (λ (es : List (List ℕ × ℕ)). put c.args.facet.now c.args.count es) c.self.view_is
+    let p : Between es c.args.facet c.args.at = rw c.self.view_is c.requires.place in
+    c.shift_in.ensures.front ∙ sym (put_new es c.args.at c.args.facet c.args.count p) ∙ ap (λ (es : List (List ℕ × ℕ)). put c.args.facet c.args.count es) c.self.view_is
