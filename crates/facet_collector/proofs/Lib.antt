@@ -9,3 +9,7 @@ pub mod Cursor
 pub mod Adding
 pub mod Seeks
 pub mod Walks
+pub mod Places
+pub mod Shifts
+pub mod Fronts
+pub mod Gathers

@@ -7,3 +7,7 @@ pub mod Requests
 pub mod Requested
 pub mod Faults
 pub mod Adding
+pub mod Held
+pub mod Placed
+pub mod Ranks
+pub mod Fronts

@@ -16,7 +16,7 @@ use std::marker::Model;
 
 pub const MOST_REQUESTS: usize = 16;
 
-// In the order of facets, none above another.
+// In the order of facets, none above another. A fixed array with a length: nothing here is on the heap.
 #[derive(Drop)]
 pub struct Requests {
     facets: [Facet; MOST_REQUESTS],
