@@ -47,7 +47,7 @@ where
     show(rt, collect_each(collector, 0, &segment, &TURNED))?;
     print!(rt; "  none: ")?;
     show(rt, collect_each(collector, 0, &segment, &[]))?;
-    print!(rt; "  documents 4 and 5: ")?;
+    print!(rt; "  one past the last: ")?;
     show(rt, collect_each(collector, 0, &segment, &PAST))?;
     print!(rt; "  a block without scores: ")?;
     show(rt, collect_blocks(collector, 0, &segment, &DOCS))
