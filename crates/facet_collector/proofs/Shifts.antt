@@ -1,9 +1,9 @@
 -- An entry put among others.
-use Rattle.std.proofs.Common.{◌≡◌, ℕ, ◌+◌, ◌<◌, ◌≤◌, List, [], ◌∷◌, ◌++◌, length, set, take, drop, sym, ap, subst, ◌∙◌, arith}
+use Rattle.std.proofs.Common.{◌≡◌, ℕ, ◌+◌, ◌<◌, List, [], ◌∷◌, ◌++◌, length, set, take, drop, sym, ap, subst, ◌∙◌, arith}
 use Rattle.std.specs.List.{insert}
-use Rattle.std.proofs.lemmas.List.{drop-set-add, drop-take, drop_at, length-drop, length-set, length-take-le, length-append, take-take, take_at, take_more_set, take-set-le}
+use Rattle.std.proofs.lemmas.List.{drop-set-add, drop-take, drop_at, length-drop, length-set, length-take-le, take-take, take_at, take_more_set, take-set-le}
 use Rattle.std.proofs.lemmas.Slice.{take-put_mid}
-use borrow.Rule.Slice.PartMut.{put_mid, mid_of}
+use borrow.Rule.Slice.PartMut.{put_mid}
 
 module _ {X : Type 0} where
   part : (xs : List X) (a m : ℕ) (e : X) → a + m < length xs → take (m + 1) (drop a (set xs (a + m) e)) ≡ take m (drop a xs) ++ e ∷ []

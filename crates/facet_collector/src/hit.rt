@@ -73,6 +73,9 @@ impl Ord for Hit {
         ensures ranks { Ranks self.now other.now result }
         ensures laws { RankLaws }
     {
-        other.count.cmp(&self.count).then(self.facet.cmp(&other.facet))
+        other
+            .count
+            .cmp(&self.count)
+            .then(self.facet.cmp(&other.facet))
     }
 }

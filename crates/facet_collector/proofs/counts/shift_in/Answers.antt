@@ -1,4 +1,4 @@
-use Rattle.std.proofs.Common.{ℕ, ◌+◌, ◌-◌, ◌≡◌, arith, length, set, take, drop}
+use Rattle.std.proofs.Common.{◌+◌, ◌-◌, ◌≡◌, arith, length, set, take, drop}
 use Rattle.std.proofs.lemmas.List.{length-drop, length-set, length-take-le}
 use Rattle.facet_collector.proofs.Shifts.{shifted}
 use Rattle.facet_collector.proofs.counts.shift_in.Goals as goal

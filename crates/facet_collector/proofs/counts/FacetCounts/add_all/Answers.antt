@@ -1,4 +1,3 @@
-use Rattle.std.proofs.Common.{ℕ, List, ◌≡◌, take, arith}
 use Rattle.facet_collector.proofs.Places.{add_fails, add_more}
 use Rattle.facet_collector.proofs.counts.FacetCounts.add_all.Goals as goal
 

@@ -1,4 +1,4 @@
-use Rattle.std.proofs.Common.{rules, List, ℕ, [], sym, ap, ◌∙◌}
+use Rattle.std.proofs.Common.{List, ℕ, [], sym, ap, ◌∙◌}
 use Rattle.std.proofs.lemmas.List.{get_or_read}
 use Rattle.collector.specs.Facets.{count_of}
 use Rattle.facet_collector.proofs.Sums.{from_sound}

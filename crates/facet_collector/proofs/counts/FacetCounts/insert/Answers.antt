@@ -1,6 +1,6 @@
-use Rattle.std.proofs.Common.{rules, ℕ, ◌+◌, ◌≡◌, List, false, length, take, sym, ap, ◌∙◌, arith}
+use Rattle.std.proofs.Common.{ℕ, ◌≡◌, List, length, take, sym, ap, ◌∙◌, arith}
 use Rattle.std.proofs.lemmas.List.{length-take-le}
-use Rattle.facet_collector.specs.Entries.{put, fits}
+use Rattle.facet_collector.specs.Entries.{put}
 use Rattle.facet_collector.specs.Placed.{Between}
 use Rattle.facet_collector.proofs.Places.{new_fits, new_unfit_many, new_unfit_large, put_new}
 use Rattle.facet_collector.proofs.Sums.{put_sound}
@@ -13,8 +13,8 @@ returns-then-self-eq-MOST_ENTRIES-clause-put c =
     let p = c.requires.place in
     let full : c.self.inside.len ≡ 128 → length es ≡ 128 = λ q. sym (ap length c.self.view_is) ∙ length-take-le c.self.inside.len c.self.inside.entries (let f = c.self.invariant.full in omega arith) ∙ q in
     elim c.then-self-eq-MOST_ENTRIES.branch [
-      then-self-eq-MOST_ENTRIES-via-then-self-eq-MOST_ENTRIES w ↦ new_unfit_many es c.args.at c.args.facet c.args.count p (full w.if-self-eq-MOST_ENTRIES.true)
-    | then-self-eq-MOST_ENTRIES-via-else-self-eq-MOST_ENTRIES+then-count-gt-MOST_COUNT w ↦ new_unfit_large es c.args.at c.args.facet c.args.count p w.if-count-gt-MOST_COUNT.true
+      | then-self-eq-MOST_ENTRIES-via-then-self-eq-MOST_ENTRIES w ↦ new_unfit_many es c.args.at c.args.facet c.args.count p (full w.if-self-eq-MOST_ENTRIES.true)
+      | then-self-eq-MOST_ENTRIES-via-else-self-eq-MOST_ENTRIES+then-count-gt-MOST_COUNT w ↦ new_unfit_large es c.args.at c.args.facet c.args.count p w.if-count-gt-MOST_COUNT.true
     ]
 
 pub invariant_of-self : goal.invariant_of-self

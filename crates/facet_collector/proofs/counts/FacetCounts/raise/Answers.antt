@@ -1,6 +1,5 @@
-use Rattle.std.proofs.Common.{ℕ, ◌<◌, ◌≡◌, List, length, sym, ap, ◌∙◌, arith}
+use Rattle.std.proofs.Common.{◌∙◌, arith}
 use Rattle.std.proofs.lemmas.List.{length-set}
-use Rattle.facet_collector.specs.Entries.{put}
 use Rattle.facet_collector.specs.Placed.{facet_at}
 use Rattle.facet_collector.proofs.Places.{fit_read, raised, small_read, unfit_read}
 use Rattle.facet_collector.proofs.Sums.{from_sound, put_sound}
