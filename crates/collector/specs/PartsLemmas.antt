@@ -7,7 +7,7 @@ use Rattle.collector.specs.Combined.{pair_m, switch_m, same_switch, pair_of, sam
 use Rattle.collector.specs.Facets.{Faceted, CountsFacets}
 use Rattle.collector.specs.Meaning.{Meaning, Laws}
 use Rattle.collector.specs.Parts.{Part, Parted}
-use Rattle.collector.specs.Places.{Places, itself, no_facets, then, inside, beside, seen_as, pair_places, triple_places, switch_places}
+use Rattle.collector.specs.Places.{Places, itself, no_facets, then, inside, beside, pair_places, triple_places, switch_places}
 
 -- ---- parts
 
@@ -129,17 +129,6 @@ module _ {C V : Type 0} (meaning : C → Meaning V) (same : C → C → Bool) wh
     counts_at = λ c. elim [ inl p ↦ h.counts_at c p | inr q ↦ k.counts_at c q ];
   }
 
--- what holds at the places of what collectors are seen as
-parted_as : {C D V : Type 0} {meaning : C → Meaning V} {same : C → C → Bool} {ps : Places C V} (f : D → C) → Parted meaning same ps → Parted (λ d. meaning (f d)) (λ d e. same (f d) (f e)) (seen_as f ps)
-parted_as f h = record {
-  lawful_at = λ d. h.lawful_at (f d);
-  part_at = λ d. h.part_at (f d);
-  level = λ d e. h.level (f d) (f e);
-  alike_at = λ d e. h.alike_at (f d) (f e);
-  agree_at = λ d e. h.agree_at (f d) (f e);
-  counts_at = λ d. h.counts_at (f d);
-}
-
 -- ---- combinations
 
 -- both of a pair keep the laws
@@ -157,14 +146,22 @@ module _ {A B U V : Type 0} {a : A → Meaning U} {b : B → Meaning V} {same-a 
       (parted_inside _ _ (λ _. true) (λ c. c.0) _ pa (λ c _. part_left _ _) (λ c d _. refl) (λ c d e _. (and_parts _ _ e).0))
       (parted_inside _ _ (λ _. true) (λ c. c.1) _ pb (λ c _. part_right _ _) (λ c d _. refl) (λ c d e _. (and_parts _ _ e).1)))
 
+each : {A B C : Type 0} (same-a : A → A → Bool) (same-b : B → B → Bool) (same-c : C → C → Bool) (t u : A × B × C) → same_triple same-a same-b same-c t u ≡ true → (same-a t.0 u.0 ≡ true) × (same-b t.1 u.1 ≡ true) × (same-c t.2 u.2 ≡ true)
+each same-a same-b same-c t u e = let (l, r) = and_parts (same-a t.0 u.0) _ e in let (m, n) = and_parts (same-b t.1 u.1) _ r in (l, m, n)
+
 module _ {A B C U V W : Type 0} {a : A → Meaning U} {b : B → Meaning V} {c : C → Meaning W} {same-a : A → A → Bool} {same-b : B → B → Bool} {same-c : C → C → Bool} where
   pub triple_agree : ((x y : A) → same-a x y ≡ true → a x ≡ a y) → ((x y : B) → same-b x y ≡ true → b x ≡ b y) → ((x y : C) → same-c x y ≡ true → c x ≡ c y) → (t u : A × B × C) → same_triple same-a same-b same-c t u ≡ true → triple_of a b c t ≡ triple_of a b c u
   triple_agree h k l t u e = pair_agree h (pair_agree k l) (nested t) (nested u) e
 
   pub triple_parted : {ps : Places A U} {qs : Places B V} {rs : Places C W} → ((x : A) → Laws (a x)) → ((x : B) → Laws (b x)) → ((x : C) → Laws (c x)) → ((x y : A) → same-a x y ≡ true → a x ≡ a y) → ((x y : B) → same-b x y ≡ true → b x ≡ b y) → ((x y : C) → same-c x y ≡ true → c x ≡ c y) → Parted a same-a ps → Parted b same-b qs → Parted c same-c rs → Parted (triple_of a b c) (same_triple same-a same-b same-c) (triple_places a b c same-a same-b same-c ps qs rs)
   triple_parted la lb lc ga gb gc pa pb pc =
-      parted_as nested
-      (pair_parted la (λ d. pair_lawful _ _ (lb _) (lc _)) ga (pair_agree gb gc) pa (pair_parted lb lc gb gc pb pc))
+      let rest : (t : A × B × C) → Part (triple_of a b c t) (pair_m (b t.1) (c t.2)) (λ v. Some v.1) = λ t. part_right (a t.0) (pair_m (b t.1) (c t.2)) in
+      parted_beside _ _
+      (parted_alone _ _ (λ t. pair_lawful _ _ (la _) (pair_lawful _ _ (lb _) (lc _))) (triple_agree ga gb gc))
+      (parted_beside _ _ (parted_inside _ _ (λ _. true) (λ t. t.0) _ pa (λ t _. part_left _ _) (λ t u _. refl) (λ t u e _. (each same-a same-b same-c t u e).0))
+      (parted_beside _ _
+      (parted_inside _ _ (λ _. true) (λ t. t.1) _ pb (λ t _. part_of_part (rest t) (part_left (b t.1) (c t.2))) (λ t u _. refl) (λ t u e _. (each same-a same-b same-c t u e).1))
+      (parted_inside _ _ (λ _. true) (λ t. t.2) _ pc (λ t _. part_of_part (rest t) (part_right (b t.1) (c t.2))) (λ t u _. refl) (λ t u e _. (each same-a same-b same-c t u e).2))))
 
 -- ---- switches
 

@@ -1,7 +1,7 @@
 -- The collectors within a combination, each named by its place. Assumes nothing.
 use Rattle.std.specs.Prelude.{Bool, true, ◌&&◌, ◌⊎◌, Some, None, Option}
 use Rattle.std.proofs.Common.{inl, inr}
-use Rattle.collector.specs.Combined.{pair_of, same_pair, nested}
+use Rattle.collector.specs.Combined.{pair_of, same_pair, triple_of, same_triple}
 use Rattle.collector.specs.Facets.{Faceted}
 use Rattle.collector.specs.Meaning.{Meaning}
 
@@ -72,18 +72,6 @@ beside {C} {V} ps qs = record {
   counting = λ c. or (λ W. Option (Faceted W)) (ps.counting c) (qs.counting c);
 }
 
--- the places of what collectors are seen as
-abbrev pub seen_as : {C D V : Type 0} → (D → C) → Places C V → Places D V
-seen_as f ps = record {
-  Place = ps.Place;
-  At = ps.At;
-  on = λ d. ps.on (f d);
-  part = λ d. ps.part (f d);
-  view = ps.view;
-  same_at = λ p d e. ps.same_at p (f d) (f e);
-  counting = λ d. ps.counting (f d);
-}
-
 -- ---- combinations
 
 abbrev pub pair_places : {A B U V : Type 0} → (A → Meaning U) → (B → Meaning V) → (A → A → Bool) → (B → B → Bool) → Places A U → Places B V → Places (A × B) (U × V)
@@ -91,9 +79,12 @@ pair_places a b same-a same-b ps qs =
     beside (itself (pair_of a b) (same_pair same-a same-b) no_facets)
     (beside (inside (λ _. true) (λ c. c.0) (λ v. Some v.0) ps) (inside (λ _. true) (λ c. c.1) (λ v. Some v.1) qs))
 
+-- the triple, and the places of its three: the pair of the others, by which it is meant, is none
 abbrev pub triple_places : {A B C U V W : Type 0} → (A → Meaning U) → (B → Meaning V) → (C → Meaning W) → (A → A → Bool) → (B → B → Bool) → (C → C → Bool) → Places A U → Places B V → Places C W → Places (A × B × C) (U × (V × W))
 triple_places a b c same-a same-b same-c ps qs rs =
-    seen_as nested (pair_places a (pair_of b c) same-a (same_pair same-b same-c) ps (pair_places b c same-b same-c qs rs))
+    beside (itself (triple_of a b c) (same_triple same-a same-b same-c) no_facets)
+    (beside (inside (λ _. true) (λ t. t.0) (λ v. Some v.0) ps)
+    (beside (inside (λ _. true) (λ t. t.1) (λ v. Some v.1.0) qs) (inside (λ _. true) (λ t. t.2) (λ v. Some v.1.1) rs)))
 
 -- by whether it is on, and its collector
 abbrev pub switch_places : {S C V : Type 0} → (S → Meaning (Option V)) → (S → S → Bool) → (S → Bool) → (S → C) → Places C V → Places S (Option V)

@@ -1,8 +1,28 @@
 -- Bytes that are written one by one into an array or a buffer. Assumes nothing.
-use Rattle.std.proofs.Common.{◌≡◌, ℕ, ◌+◌, ◌<◌, ◌≤◌, true, List, [], ◌∷◌, ◌++◌, length, take, drop, set, replicate, sym, refl, ap, ◌∙◌, arith, length-append, length-drop, length-set}
+use Rattle.std.proofs.Common.{◌≡◌, ℕ, ◌+◌, ◌<◌, ◌≤◌, ◌%◌, Bool, true, false, cond, List, [], ◌∷◌, ◌++◌, length, take, drop, set, replicate, sym, refl, ap, ◌∙◌, arith, length-append, length-drop, length-set}
+use Rattle.std.specs.List.{fold, count_by}
+use Rattle.std.proofs.lemmas.List.Sums.{sum_by-cons}
 use Rattle.utf8.specs.Octets.{utf8}
 use Rattle.facet.specs.Padded.{IsPadded}
 use Rattle.std.proofs.lemmas.List.{take_at, drop_at, drop-replicate, append_assoc, append-nil, take_more_set, length-take-le, drop-set-lt, drop-drop, take-append-drop}
+
+-- bytes counted in a byte, where the count fits
+abbrev pub one_more : (ℕ → Bool) → ℕ → ℕ → ℕ
+one_more test n b = (n + cond (test b) 1 0) % 256
+
+fold_from : (test : ℕ → Bool) (xs : List ℕ) (n : ℕ) → n + length xs ≤ 255 → fold (one_more test) n xs ≡ n + count_by test xs
+fold_from test [] n l = omega arith
+fold_from test (b ∷ xs) n l =
+    let k = one (test b) in
+    let m : one_more test n b ≡ n + cond (test b) 1 0 = omega arith in
+    fold_from test xs (one_more test n b) (omega arith) ∙ omega (arith, m, sum_by-cons (λ x. cond (test x) 1 0) b xs)
+  where
+    one : (t : Bool) → cond t 1 0 ≤ 1
+    one true = omega arith
+    one false = omega arith
+
+pub fold_count : (test : ℕ → Bool) (xs : List ℕ) → length xs ≤ 255 → fold (one_more test) 0 xs ≡ count_by test xs
+fold_count test xs l = fold_from test xs 0 (omega arith) ∙ omega arith
 
 -- the first n bytes of `all` are written over `old`, which gave `bytes`, and `left` is still to come
 pub record Filled (all old bytes : List ℕ) (n : ℕ) (left : List ℕ) : Type 0 where

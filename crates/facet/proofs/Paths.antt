@@ -49,6 +49,11 @@ not_above_shorter (a ∷ p) f l = not_so (above (a ∷ p) f) (λ h.
     let e = ap length u.1 ∙ length-append (a ∷ p) (0 ∷ u.0) in
     omega arith)
 
+pub root_above : (p f : List ℕ) → length p ≡ 0 → length p < length f → above p f ≡ true
+root_above [] [] z l = absurd (omega arith)
+root_above [] (b ∷ f) z l = refl
+root_above (a ∷ p) f z l = absurd (omega arith)
+
 begins_at : (p : List ℕ) (b : ℕ) (r : List ℕ) → begins (p ++ 0 ∷ []) (p ++ b ∷ r) ≡ eqb b 0
 begins_at [] b r = grind (arith, nat_tests)
 begins_at (a ∷ p) b r = ap (λ (t : Bool). t && begins (p ++ 0 ∷ []) (p ++ b ∷ r)) (eq-eqb a a refl) ∙ begins_at p b r
@@ -254,6 +259,13 @@ child_is_way (a ∷ p) f d c l =
     put (drop (suc (length (a ∷ p))) f) (ap first_step (ap (drop (suc (length (a ∷ p)))) (v.1 ∙ append_assoc (a ∷ p) (0 ∷ s) (0 ∷ v.0)) ∙ behind (a ∷ p) (s ++ 0 ∷ v.0)) ∙ (first_is s v.0 z).1))
     (or_cases (bytes_eq f d) (above d f) l)
 
+-- what f is at or below, below p, has p above f
+leads_below : (p f d : List ℕ) → above p d ≡ true → at_or_below f d ≡ true → above p f ≡ true
+leads_below p f d h l =
+    ⊎_elim (λ (q : bytes_eq f d ≡ true). subst (λ (x : List ℕ). above p x ≡ true) (sym ((bytes_eq-Decides f d).0 q)) h)
+    (λ (q : above d f ≡ true). above_chain p d f h q)
+    (or_cases (bytes_eq f d) (above d f) l)
+
 at_or_below_from : (f c : List ℕ) → (f ≡ c) ⊎ ((r : List ℕ) × (f ≡ c ++ 0 ∷ r)) → 0 < length c → at_or_below f c ≡ true
 at_or_below_from f c (inl h) z = or_left (bytes_eq f c) (above c f) (subst (λ (x : List ℕ). bytes_eq x c ≡ true) (sym h) ((bytes_eq-Decides c c).1 refl))
 at_or_below_from f [] (inr h) z = absurd (omega arith)
@@ -320,6 +332,9 @@ at_or_below_rest f [] z l = absurd (omega arith)
 at_or_below_rest f (b ∷ c) z l =
     ⊎_elim (λ (h : bytes_eq f (b ∷ c) ≡ true). inl ((bytes_eq-Decides f (b ∷ c)).0 h)) (λ (h : above (b ∷ c) f ≡ true). inr (below_rest b c f h))
     (or_cases (bytes_eq f (b ∷ c)) (above (b ∷ c) f) l)
+
+pub no_way_apart : (p f : List ℕ) → above p f ≡ false → NoWay p f
+no_way_apart p f n d c l = both_ways (above p f) n (leads_below p f d (and_parts (above p d) (eqb (depth d) (suc (depth p))) c).0 l)
 
 pub no_way_empty : (p f : List ℕ) → way p f ≡ [] → NoWay p f
 no_way_empty p f e d c l =

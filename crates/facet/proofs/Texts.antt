@@ -1,7 +1,8 @@
 -- The text of a facet, byte by byte. Assumes nothing.
-use Rattle.std.proofs.Common.{◌≡◌, ℕ, ◌*◌, ◌<◌, ◌≤◌, Bool, true, false, cond, ◌||◌, eqb, List, [], ◌∷◌, ◌++◌, length, sym, refl, ap, ◌∙◌, arith, length-append}
+use Rattle.std.proofs.Common.{◌≡◌, ℕ, ◌+◌, ◌*◌, ◌<◌, ◌≤◌, Bool, true, false, cond, ◌||◌, eqb, List, [], ◌∷◌, ◌++◌, length, sym, refl, ap, ◌∙◌, arith, length-append}
 use Rattle.std.proofs.lemmas.Bool.{eqb-true}
-use Rattle.std.specs.List.{flat_map}
+use Rattle.std.proofs.lemmas.List.Sums.{sum_by-cons}
+use Rattle.std.specs.List.{flat_map, count_by}
 use Rattle.facet.specs.Pieces.{grow, split}
 use Rattle.facet.specs.Text.{unescaped, escaped, printed, shown}
 use Rattle.facet.proofs.Paths.{split_some}
@@ -63,3 +64,17 @@ length_shown b = cut (eqb b 0) (eqb b 47 || eqb b 92)
 pub length_joined : (f : List ℕ) → length (flat_map shown f) ≤ 2 * length f
 length_joined [] = omega arith
 length_joined (b ∷ f) = let h = length_joined f in let s = length_shown b in let a = length-append (shown b) (flat_map shown f) in omega arith
+
+-- a byte more for each that has a backslash before it
+pub joined_escaped : (f : List ℕ) → length (flat_map shown f) ≡ length f + count_by (λ b. eqb b 47 || eqb b 92) f
+joined_escaped [] = refl
+joined_escaped (b ∷ f) =
+    let h = joined_escaped f in
+    let s = cut (eqb b 0) (eqb b 47 || eqb b 92) (λ z. ap (λ (n : ℕ). eqb n 47 || eqb n 92) (eqb-true b 0 z)) in
+    let a = length-append (shown b) (flat_map shown f) in
+    omega (arith, h, s, a, sum_by-cons (λ x. cond (eqb x 47 || eqb x 92) 1 0) b f)
+  where
+    cut : (z s : Bool) → (z ≡ true → s ≡ false) → length (cond z (47 ∷ []) (cond s (92 ∷ b ∷ []) (b ∷ []))) ≡ 1 + cond s 1 0
+    cut true s e = ap (λ (t : Bool). 1 + cond t 1 0) (sym (e refl))
+    cut false true e = refl
+    cut false false e = refl

@@ -15,7 +15,6 @@ use Rattle.std.specs.Cmp.Lexicographic.{lists_total}
 use Rattle.std.specs.BTreeSet.{insert_key}
 use Rattle.std.specs.Ordering.{match_ordering, ordering_reverse}
 use Rattle.std.specs.Str.{bytes_eq}
-use Rattle.recipes.specs.Recipes.{entry_at, entry_of}
 use Rattle.recipes.specs.Counting.{holds, recipes_at, count_of, Ascending, Counted, member, Children}
 
 -- ---- what recipes hold
@@ -139,10 +138,6 @@ module _ (g : List ℕ → ℕ) where
   firsts : (cs : List (List ℕ)) → map (λ (e : List ℕ × ℕ). e.0) (entries cs) ≡ cs
   firsts [] = refl
   firsts (c ∷ cs) = ap (λ (l : List (List ℕ)). c ∷ l) (firsts cs)
-
-pub entries_of : (rs : List (List (List ℕ))) (cs : List (List ℕ)) → map entry_of (map (entry_at rs) cs) ≡ entries (recipes_at rs) cs
-entries_of rs [] = refl
-entries_of rs (c ∷ cs) = ap (λ (l : List (List ℕ × ℕ)). (c, recipes_at rs c) ∷ l) (entries_of rs cs)
 
 -- the counts at the children of p are the entries below it
 pub counted : {X : Type 0} (f : X → List (List ℕ)) (xs : List X) (p : List ℕ) (cs : List (List ℕ)) → Children p (flat_map f xs) cs → Counted (map f xs) p (entries (recipes_at (map f xs)) cs)

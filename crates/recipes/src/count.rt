@@ -1,18 +1,32 @@
 // How many recipes stand at or below each child of a branch.
 ghost use Rattle.std.specs.Prelude.{◌≡◌, map, IfOk};
 ghost use Rattle.recipes.specs.Counting.{recipes_at, Counted, all_reach, Children};
-ghost use Rattle.recipes.specs.Recipes.{held_by, entry_at, entry_of};
+ghost use Rattle.recipes.specs.Recipes.{held_by, entry_at};
 ghost use Rattle.std.specs.List.{flat_map};
 
 use crate::recipe::Recipe;
 use facet::Facet;
 use std::alloc::{AllocError, Global};
 use std::collections::BTreeSet;
+use std::marker::Model;
 
 #[derive(Clone, Copy, PartialEq, Eq)]
 pub struct Entry {
     pub facet: Facet,
     pub count: u64,
+}
+
+// Clauses see the encoding with the count. A model with its inverse, since what holds a facet is copied only so.
+impl Model for Entry {
+    ghost use Rattle.std.specs.Prelude.{ℕ, List, refl};
+
+    ghost Value = { List ℕ × ℕ };
+
+    ghost view = { λ e. (e.facet, e.count) };
+
+    ghost inverse = { λ e. record { facet = e.0; count = e.1 } };
+
+    ghost inverse_ok = { λ e i. refl };
 }
 
 // How many recipes are filed at or below the branch, each counted once.
@@ -61,14 +75,14 @@ pub fn count_children(
     recipes: &[Recipe],
     branch: &Facet,
 ) -> Result<Vec<Entry>, AllocError>
-    ensures { IfOk result (λ v. Counted (map held_by recipes.now) branch.now (map entry_of v.items)) }
+    ensures { IfOk result (λ v. Counted (map held_by recipes.now) branch.now v.items) }
 {
     entries(heap, recipes, &children(heap, recipes, branch)?)
 }
 
 // Whether every entry reaches the minimum.
 pub fn all_reach(entries: &[Entry], min: u64) -> bool
-    ensures { result ≡ all_reach min (map entry_of entries.now) }
+    ensures { result ≡ all_reach min entries.now }
 {
     entries.iter().all(|entry| entry.count >= min)
 }

@@ -1,6 +1,6 @@
 // How an entry is written.
-ghost use Rattle.std.specs.Prelude.{◌≡◌, ◌∷◌, ◌++◌, Some, IfOk, string_bytes, decimal};
-ghost use Rattle.facet.specs.Text.{printed};
+ghost use Rattle.std.specs.Prelude.{◌≡◌, Some, IfOk, string_bytes};
+ghost use Rattle.recipes.specs.Recipes.{entry_text};
 
 use crate::count::Entry;
 use std::alloc::{AllocError, Global};
@@ -8,7 +8,7 @@ use std::fmt;
 
 // The count in decimal, a tab, and the text of the facet.
 impl fmt::Display for Entry {
-    ghost output = { λ e. Some (decimal e.count ++ 9 ∷ printed e.facet) };
+    ghost output = { λ e. Some (entry_text e) };
 
     fn fmt<W: fmt::Write>(&self, f: &mut fmt::Formatter<W>) -> fmt::Result {
         let Entry { facet, count } = self;
@@ -18,7 +18,7 @@ impl fmt::Display for Entry {
 
 // The same as a text.
 pub fn entry_line(heap: Global, entry: &Entry) -> Result<String, AllocError>
-    ensures { IfOk result (λ s. string_bytes s ≡ decimal entry.now.count ++ 9 ∷ printed entry.now.facet) }
+    ensures { IfOk result (λ s. string_bytes s ≡ entry_text entry.now) }
 {
     format!(in heap; "{entry}")
 }

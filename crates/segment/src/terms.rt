@@ -16,7 +16,15 @@ const LONGEST_TERM: u32 = 127;
 fn is_full(term: &[u8]) -> bool
     ensures { result ≡ full (steps term.now) }
 {
-    term.is_empty() || term.split(|b| *b == 0).all(|step| !step.is_empty())
+    if term.is_empty() {
+        return true;
+    }
+    // a separator has a byte before it and is not the last: a fold without branches, since `split` takes longer where
+    // steps are short
+    let (full, last) = term.iter().fold((true, 0), |(full, before), b| {
+        (full & ((before != 0) | (*b != 0)), *b)
+    });
+    full & (last != 0)
 }
 
 // Whether a term is greater than the one before, if there is one.
@@ -24,7 +32,8 @@ fn rises(terms: Items<u8>, i: usize) -> bool
     requires { i < length terms.ends.now }
     ensures { result ≡ after [] rises_to (items terms.entry.ends.now terms.entry.all.now) i }
 {
-    i == 0 || terms.at(i - 1) < terms.at(i)
+    // `cmp` passes over equal bytes in groups, and `<` goes byte by byte
+    i == 0 || terms.at(i - 1).cmp(terms.at(i)).is_lt()
 }
 
 // Whether each term is UTF-8, has no empty step, and is greater than the one before.

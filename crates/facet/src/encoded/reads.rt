@@ -48,7 +48,9 @@ impl Facet {
 
     // The same bytes as text.
     pub fn as_str(&self) -> &str
-        ensures { result.now ≡ self.now }
+        ensures value { result.now ≡ self.now }
+        ensures bound { length result.now ≤ 127 }
+        ensures text { utf8 result.now ≡ true }
     {
         unsafe { from_utf8_unchecked(self.encoded()) }
     }

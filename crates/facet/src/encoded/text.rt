@@ -1,5 +1,5 @@
 // A facet from its text or its encoding.
-ghost use Rattle.std.specs.Prelude.{◌≡◌, true, false};
+ghost use Rattle.std.specs.Prelude.{◌≡◌, ◌<◌, true, false, [], ◌∷◌, length, IsNone, IfSome};
 ghost use Rattle.std.specs.Iterator.{YieldsFirst, item_count};
 ghost use Rattle.facet.specs.Reading.{limited, read, decoded};
 ghost use Rattle.facet.specs.Text.{unescaped};
@@ -8,6 +8,24 @@ ghost use Rattle.utf8.specs.Octets.{utf8};
 use super::{Facet, SEPARATOR};
 use crate::fault::FacetFault;
 use utf8::is_utf8;
+
+// The first byte that the text stands for, and the text behind it.
+fn next_byte(text: &[u8]) -> Option<(u8, &[u8])>
+    ensures none { IsNone result → unescaped false text.now ≡ [] }
+    ensures some { IfSome result (λ p. unescaped false text.now ≡ p.0 ∷ unescaped false p.1.now) }
+    ensures shorter { IfSome result (λ p. length p.1.now < length text.now) }
+{
+    // nested, since flat patterns ask for the length once more at each byte
+    match text {
+        [b'\\', rest @ ..] => match rest {
+            [taken, after @ ..] => Some((*taken, after)),
+            [] => None,
+        },
+        [b'/', after @ ..] => Some((SEPARATOR, after)),
+        [b, after @ ..] => Some((*b, after)),
+        [] => None,
+    }
+}
 
 // The bytes that the text behind the first slash stands for.
 #[derive(Drop)]
@@ -23,12 +41,7 @@ impl<'a> Iterator for Unescaped<'a> {
     ghost remaining = { item_count (λ s. unescaped false s.left.now) };
 
     fn next(&mut self) -> Option<u8> {
-        let (b, after) = match self.left {
-            [b'\\', taken, after @ ..] => (*taken, after),
-            [b'\\'] | [] => return None,
-            [b'/', after @ ..] => (SEPARATOR, after),
-            [b, after @ ..] => (*b, after),
-        };
+        let (b, after) = next_byte(self.left)?;
         self.left = after;
         Some(b)
     }

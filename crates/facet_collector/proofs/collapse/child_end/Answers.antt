@@ -25,7 +25,7 @@ module _ (c : goal.After-child_offset-start) where
   found = ap (λ f. above f c.args.term.now) (sym c.encoded.ensures.value) ∙ sym c.if-not-is_above.ensures
 
   within : c.child_offset-start.result ≤ length c.args.term.now
-  within = starts_within _ _ _ _ c.as_slice.ensures.requestable last.0 last.1 found _ c.child_offset-start.ensures
+  within = starts_within _ _ _ _ c.as_slice.ensures.requestable last.0 last.1 found _ c.child_offset-start.ensures.value
 
 pub slice_bounds-step_end-count : goal.slice_bounds-step_end-count
 slice_bounds-step_end-count c = within c
@@ -36,15 +36,15 @@ slice_bounds-step_end-start c = let h = within c in search rules
 pub overflow_add-end : goal.overflow_add-end
 overflow_add-end c =
     let b = (goal.at.overflow_add-end c).After-child_offset-start in
-    let h = ends_within _ _ _ _ c.as_slice.ensures.requestable (last b).0 (last b).1 (found b) _ c.child_offset-start.ensures _ c.step_end.ensures in
+    let h = ends_within _ _ _ _ c.as_slice.ensures.requestable (last b).0 (last b).1 (found b) _ c.child_offset-start.ensures.value _ c.step_end.ensures in
     let s = c.requires.short in search rules
 
 pub returns-then-end-eq0 : goal.returns-then-end-eq0
 returns-then-end-eq0 c =
     let b = (goal.at.returns-then-end-eq0 c).After-child_offset-start in
-    ends_empty _ _ _ _ c.as_slice.ensures.requestable (last b).0 (last b).1 (found b) _ c.child_offset-start.ensures _ c.step_end.ensures (omega (arith, c.if-end-eq0.true))
+    ends_empty _ _ _ _ c.as_slice.ensures.requestable (last b).0 (last b).1 (found b) _ c.child_offset-start.ensures.value _ c.step_end.ensures (omega (arith, c.if-end-eq0.true))
 
 pub returns : goal.returns
 returns c =
     let b = (goal.at.returns c).After-child_offset-start in
-    ends_some _ _ _ _ c.as_slice.ensures.requestable (last b).0 (last b).1 (found b) _ c.child_offset-start.ensures _ c.step_end.ensures _ c.depth.ensures.value (λ z. c.if-end-eq0.false z)
+    ends_some _ _ _ _ c.as_slice.ensures.requestable (last b).0 (last b).1 (found b) _ c.child_offset-start.ensures.value _ c.step_end.ensures _ c.depth.ensures.value (λ z. c.if-end-eq0.false z)

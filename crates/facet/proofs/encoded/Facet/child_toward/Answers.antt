@@ -40,33 +40,33 @@ module _ (p f xs : List ℕ) (s n : ℕ) (h : above p f ≡ true) (e : xs ≡ f)
     text z u = ap utf8 front_is_way ∙ utf8_way p f h (let l = length_way in omega arith) u
 
 pub slice_bounds-step_end-count : goal.slice_bounds-step_end-count
-slice_bounds-step_end-count c = starts _ _ _ _ 0 (sym c.if-not-is_prefix_of.ensures.value) c.encoded-below.ensures.value c.child_offset-start.ensures
+slice_bounds-step_end-count c = starts _ _ _ _ 0 (sym c.if-not-is_prefix_of.ensures.value) c.encoded-below.ensures.value c.child_offset-start.ensures.value
 
 pub slice_bounds-step_end-start : goal.slice_bounds-step_end-start
 slice_bounds-step_end-start c =
-    let h = starts _ _ _ _ 0 (sym c.if-not-is_prefix_of.ensures.value) c.encoded-below.ensures.value c.child_offset-start.ensures in
+    let h = starts _ _ _ _ 0 (sym c.if-not-is_prefix_of.ensures.value) c.encoded-below.ensures.value c.child_offset-start.ensures.value in
     search rules
 
 pub overflow_add-end : goal.overflow_add-end
 overflow_add-end c =
-    let h = ends _ _ _ _ _ (sym c.if-not-is_prefix_of.ensures.value) c.encoded-below.ensures.value c.child_offset-start.ensures c.step_end.ensures in
+    let h = ends _ _ _ _ _ (sym c.if-not-is_prefix_of.ensures.value) c.encoded-below.ensures.value c.child_offset-start.ensures.value c.step_end.ensures in
     let b = c.encoded-below.ensures.bound in
     search rules
 
 pub returns-then-end-eq0 : goal.returns-then-end-eq0
-returns-then-end-eq0 c = nowhere _ _ _ _ _ (sym c.if-not-is_prefix_of.ensures.value) c.encoded-below.ensures.value c.child_offset-start.ensures c.step_end.ensures c.if-end-eq0.true
+returns-then-end-eq0 c = nowhere _ _ _ _ _ (sym c.if-not-is_prefix_of.ensures.value) c.encoded-below.ensures.value c.child_offset-start.ensures.value c.step_end.ensures c.if-end-eq0.true
 
 pub slice_bounds-hold-end : goal.slice_bounds-hold-end
 slice_bounds-hold-end c =
-    let h = ends _ _ _ _ _ (sym c.if-not-is_prefix_of.ensures.value) c.encoded-below.ensures.value c.child_offset-start.ensures c.step_end.ensures in
+    let h = ends _ _ _ _ _ (sym c.if-not-is_prefix_of.ensures.value) c.encoded-below.ensures.value c.child_offset-start.ensures.value c.step_end.ensures in
     search rules
 
 pub hold-requires-clause-text : goal.hold-requires-clause-text
 hold-requires-clause-text c =
-    text _ _ _ _ _ (sym c.if-not-is_prefix_of.ensures.value) c.encoded-below.ensures.value c.child_offset-start.ensures c.step_end.ensures (omega arith)
+    text _ _ _ _ _ (sym c.if-not-is_prefix_of.ensures.value) c.encoded-below.ensures.value c.child_offset-start.ensures.value c.step_end.ensures (omega arith)
     (ap utf8 (sym c.encoded-below.ensures.value) ∙ c.encoded-below.ensures.text)
 
 pub returns : goal.returns
 returns c =
     subst (OnTheWay _ _) (sym c.hold.ensures)
-    (leads _ _ _ _ _ (sym c.if-not-is_prefix_of.ensures.value) c.encoded-below.ensures.value c.child_offset-start.ensures c.step_end.ensures (omega arith))
+    (leads _ _ _ _ _ (sym c.if-not-is_prefix_of.ensures.value) c.encoded-below.ensures.value c.child_offset-start.ensures.value c.step_end.ensures (omega arith))
