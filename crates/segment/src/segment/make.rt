@@ -63,6 +63,7 @@ impl<'a> Segment<'a> {
     }
 
     // Whether the field at a place is a facet field.
+    #[tactic(auto, using(crate::proofs::Segments::some_found))]
     pub fn is_facet(&self, place: usize) -> bool
         ensures { result ≡ at_field false is_facet (fields_of self.now) place }
     {
@@ -70,6 +71,7 @@ impl<'a> Segment<'a> {
     }
 
     // The column of the field at a place, the empty one where there is none.
+    #[tactic(auto, using(crate::proofs::Segments::terms_found, crate::proofs::Segments::rows_found))]
     pub fn column(&self, place: usize) -> Column<'a>
         ensures terms { terms_of result ≡ at_field [] kind_terms (fields_of self.now) place }
         ensures rows { rows_of result ≡ at_field [] kind_rows (fields_of self.now) place }
